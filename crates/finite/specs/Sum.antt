@@ -1,0 +1,123 @@
+-- Finite sums: of the numbers f i with i below a bound, of those at members of a set, and of those whose index has a given end.
+use Prim.Native.Nat.{ℕ, zero, suc, _+_, _≤_, _<_}
+use native.Mathlib.Nat.{le-step, lt-suc-self, not-suc-le-zero, le-refl, add-zero}
+use native.Mathlib.Omega.{arith}
+use mathlib.Core.Bool.{Bool, true, false}
+use mathlib.Core.Path.{_≡_, refl, sym, ap, ap₂, subst, _∙_}
+use lib.Dec.{T, eqb, eqb-refl, eqb→eq}
+use Rattle.finite.specs.Bounded.{below-suc}
+
+-- x where the test passes, else 0
+abbrev pub on : Bool → ℕ → ℕ
+on true x = x
+on false x = 0
+
+-- f 0 + .. + f (n - 1)
+unfoldable pub sum : ℕ → (ℕ → ℕ) → ℕ
+sum zero f = 0
+sum (suc n) f = sum n f + f n
+
+-- the sum of f over the members of S that are below n
+unfoldable pub over : ℕ → (ℕ → Bool) → (ℕ → ℕ) → ℕ
+over n S f = sum n (λ v. on (S v) (f v))
+
+-- the sum of x over the indices below m whose end e is v
+unfoldable pub atEnd : ℕ → (ℕ → ℕ) → (ℕ → ℕ) → ℕ → ℕ
+atEnd m e x v = sum m (λ i. on (eqb (e i) v) (x i))
+
+pub on-yes : (b : Bool) (x : ℕ) → T b → on b x ≡ x
+on-yes true x h = refl
+on-yes false x h = absurd h
+
+pub on-le : (b : Bool) (x : ℕ) → on b x ≤ x
+on-le true x = le-refl x
+on-le false x = omega arith
+
+-- a larger set has the larger share
+pub on-mono : (b c : Bool) (x : ℕ) → (T b → T c) → on b x ≤ on c x
+on-mono true true x h = le-refl x
+on-mono true false x h = absurd (h tt)
+on-mono false c x h = omega arith
+
+pub sum-ext : (n : ℕ) (f g : ℕ → ℕ) → ((i : ℕ) → i < n → f i ≡ g i) → sum n f ≡ sum n g
+unfolding sum
+sum-ext zero f g h = refl
+sum-ext (suc n) f g h = ap₂ _+_ (sum-ext n f g (λ i l. h i (le-step l))) (h n (lt-suc-self n))
+
+pub sum-mono : (n : ℕ) (f g : ℕ → ℕ) → ((i : ℕ) → i < n → f i ≤ g i) → sum n f ≤ sum n g
+unfolding sum
+sum-mono zero f g h = le-refl 0
+sum-mono (suc n) f g h = omega (arith, sum-mono n f g (λ i l. h i (le-step l)), h n (lt-suc-self n))
+
+-- strictly less at one index
+pub sum-strict : (n : ℕ) (f g : ℕ → ℕ) → ((i : ℕ) → i < n → f i ≤ g i) → (k : ℕ) → k < n → f k < g k → sum n f < sum n g
+unfolding sum
+sum-strict zero f g h k l s = absurd (not-suc-le-zero l)
+sum-strict (suc n) f g h k l s =
+    below-suc
+    n
+    k
+    l
+    (λ below. omega (arith, sum-strict n f g (λ i j. h i (le-step j)) k below s, h n (lt-suc-self n)))
+    (λ e. omega (arith, sum-mono n f g (λ i j. h i (le-step j)), subst (λ (j : ℕ). f j < g j) e s))
+
+pub sum-add : (n : ℕ) (f g : ℕ → ℕ) → sum n (λ i. f i + g i) ≡ sum n f + sum n g
+unfolding sum
+sum-add zero f g = refl
+sum-add (suc n) f g = omega (arith, sum-add n f g)
+
+pub sum-zero : (n : ℕ) (f : ℕ → ℕ) → ((i : ℕ) → i < n → f i ≡ 0) → sum n f ≡ 0
+unfolding sum
+sum-zero zero f h = refl
+sum-zero (suc n) f h = omega (arith, sum-zero n f (λ i l. h i (le-step l)), h n (lt-suc-self n))
+
+-- one term is at most the sum
+pub sum-term : (n : ℕ) (f : ℕ → ℕ) (k : ℕ) → k < n → f k ≤ sum n f
+unfolding sum
+sum-term zero f k l = absurd (not-suc-le-zero l)
+sum-term (suc n) f k l =
+    below-suc n k l (λ below. omega (arith, sum-term n f k below)) (λ e. omega (arith, ap f e))
+
+pub on-no : (b : Bool) (x : ℕ) → (T b → ⊥) → on b x ≡ 0
+on-no true x h = absurd (h tt)
+on-no false x h = refl
+
+-- a sum with one term
+pub sum-one : (n k : ℕ) (f : ℕ → ℕ) → k < n → sum n (λ i. on (eqb k i) (f i)) ≡ f k
+unfolding sum
+sum-one zero k f l = absurd (not-suc-le-zero l)
+sum-one (suc n) k f l =
+    below-suc
+    n
+    k
+    l
+    (λ below. omega (arith, sum-one n k f below, on-no (eqb k n) (f n) (λ t. omega (arith, eqb→eq k n t))))
+    (λ e.
+    omega (
+      arith,
+      sum-zero n (λ i. on (eqb k i) (f i)) (λ i j. on-no (eqb k i) (f i) (λ t. omega (arith, eqb→eq k i t))),
+      on-yes (eqb k n) (f n) (subst (λ (j : ℕ). T (eqb k j)) e (eqb-refl k)),
+      ap f e,
+    ))
+
+on-zero : (b : Bool) → on b 0 ≡ 0
+on-zero true = refl
+on-zero false = refl
+
+on-add : (b : Bool) (x y : ℕ) → on b (x + y) ≡ on b x + on b y
+on-add true x y = refl
+on-add false x y = refl
+
+on-swap : (b c : Bool) (x : ℕ) → on b (on c x) ≡ on c (on b x)
+on-swap true c x = refl
+on-swap false true x = refl
+on-swap false false x = refl
+
+-- The two ways to add up x over the indices whose end is in S: end by end, or index by index.
+pub over-ends : (n m : ℕ) (S : ℕ → Bool) (e x : ℕ → ℕ) → ((i : ℕ) → i < m → e i < n) → over n S (atEnd m e x) ≡ sum m (λ i. on (S (e i)) (x i))
+unfolding over atEnd sum
+over-ends n zero S e x h = sum-zero n (λ v. on (S v) 0) (λ v l. on-zero (S v))
+over-ends n (suc m) S e x h =
+    sum-ext n _ (λ v. on (S v) (atEnd m e x v) + on (eqb (e m) v) (on (S v) (x m))) (λ v l. on-add (S v) (atEnd m e x v) (on (eqb (e m) v) (x m)) ∙ ap (λ (y : ℕ). on (S v) (atEnd m e x v) + y) (on-swap (S v) (eqb (e m) v) (x m)))
+    ∙ sum-add n (λ v. on (S v) (atEnd m e x v)) (λ v. on (eqb (e m) v) (on (S v) (x m)))
+    ∙ ap₂ _+_ (over-ends n m S e x (λ i l. h i (le-step l))) (sum-one n (e m) (λ v. on (S v) (x m)) (h m (lt-suc-self m)))
