@@ -27,10 +27,6 @@ pub record Sound (P : Plan) : Type 0 where
   pub later-named : (i : ℕ) → i < P .pairs → P .later i < P .events
   pub acyclic : (v : ℕ) → ¬ Before P v v
 
--- A pair is a skeleton pair if no event lies between its two ends. 003: an arc of the transitive reduction.
-unfoldable pub skeleton : Plan → ℕ → Bool
-skeleton P i = not (any (P .events) (λ w. before P (P .earlier i) w && before P w (P .later i)))
-
 -- An order pair of u and v is given, either way round.
 unfoldable pub paired : Plan → ℕ → ℕ → Bool
 paired P u v =
@@ -41,3 +37,7 @@ paired P u v =
 -- The free count: the number of unordered pairs of two events for which no order pair is given.
 unfoldable pub free : Plan → ℕ
 free P = sum (P .events) (λ v. sum v (λ u. on (not (paired P u v)) 1))
+
+-- A pair is a skeleton pair if no event lies between its two ends. 003: an arc of the transitive reduction.
+unfoldable pub skeleton : Plan → ℕ → Bool
+skeleton P i = not (any (P .events) (λ w. before P (P .earlier i) w && before P w (P .later i)))

@@ -1,0 +1,105 @@
+-- Document 01's starred examples, all twelve in one list, and what it and 003 show of the order: one theorem for each list.
+use Prim.Native.Nat.{ℕ, _<_}
+use mathlib.Core.Bool.{Bool, true, false, _&&_, Bool·beq}
+use mathlib.Core.List.{List, [], _∷_}
+use mathlib.Core.Path.{_≡_, refl}
+use lib.Dec.{T, eqb, ltb}
+use lib.IntN.{ℤ, pos, negsuc}
+use lib.ListN.{getD, length}
+use Rattle.finite.specs.Bounded.{all, any, _⇒_}
+use Rattle.finite.specs.Subset.{Set, greatest, every}
+use Rattle.finite.specs.Sum.{sum, over, atEnd, on}
+use Rattle.plan.specs.Net.{Net, Plan}
+use Rattle.plan.specs.Order.{before, beforeBy, skeleton, paired, free}
+use Rattle.plan.specs.Prefix.{prefix, front, tokens, lack, missing, smallest, endCount, runsAt}
+use Rattle.plan.specs.Flow.{inflow, outflow, shares, rule1, rule2, rule3, rule4, valid, otherwiseValid, overrun}
+
+-- two numbers: an event as takes/gives, or a pair as (earlier, later)
+abbrev pub Two : Type 0
+Two = ℕ × ℕ
+
+-- A row of the table: one place, a transition for each event. The flow row is a witness: it overruns by the missing count.
+pub record Example : Type 0 where
+  pub opening : ℕ
+  pub events : List Two
+  pub pairs : List Two
+  pub missing : ℕ
+  pub done : List ℕ
+  pub flow : List ℕ
+
+abbrev row : ℕ → List Two → List Two → ℕ → List ℕ → List ℕ → Example
+row o es ps m d x = record { opening = o; events = es; pairs = ps; missing = m; done = d; flow = x }
+
+abbrev netOf : Example → Net
+netOf e =
+    record { places = 1; transitions = length (e .events); opening = λ p. e .opening; takes = λ t p. getD (e .events) t (0, 0) .0; gives = λ t p. getD (e .events) t (0, 0) .1 }
+
+abbrev planOf : Example → Plan
+planOf e =
+    record { events = length (e .events); label = λ v. v; pairs = length (e .pairs); earlier = λ i. getD (e .pairs) i (0, 0) .0; later = λ i. getD (e .pairs) i (0, 0) .1 }
+
+holds : List ℕ → Set
+holds [] v = false
+holds (x ∷ xs) v = elim (eqb x v) [ true ↦ true | false ↦ holds xs v ]
+
+-- a row of numbers as a list, 0 past its end
+abbrev at : List ℕ → ℕ → ℕ
+at xs i = getD xs i 0
+
+-- the missing count is the table's
+rightCount : Example → Bool
+rightCount e = eqb (missing (netOf e) (planOf e) 0) (e .missing)
+
+-- where something is missing, the smallest done set of that lack is the table's
+rightSet : Example → Bool
+rightSet e =
+    ltb 0 (e .missing) ⇒ all (length (e .events)) (λ v. Bool·beq (smallest (netOf e) (planOf e) 0 v) (holds (e .done) v))
+
+-- the flow is otherwise valid and overruns by the missing count; it is valid exactly if the plan runs
+rightFlow : Example → Bool
+rightFlow e =
+    otherwiseValid (netOf e) (planOf e) 0 (at (e .flow)) && eqb (overrun (netOf e) (planOf e) 0 (at (e .flow))) (e .missing) && Bool·beq (valid (netOf e) (planOf e) 0 (at (e .flow))) (runsAt (netOf e) (planOf e) 0)
+
+pub agree : List Example → Bool
+agree [] = true
+agree (e ∷ es) = rightCount e && rightSet e && rightFlow e && agree es
+
+pub starred : List Example
+starred =
+    row 0 [] [] 0 [] []
+    ∷ row 1 ((1, 0) ∷ (1, 0) ∷ []) [] 1 [] (1 ∷ 1 ∷ [])
+    ∷ row 2 ((1, 0) ∷ (1, 0) ∷ []) [] 0 [] (1 ∷ 1 ∷ [])
+    ∷ row 1 ((1, 1) ∷ (1, 1) ∷ []) [] 1 [] (1 ∷ 1 ∷ [])
+    ∷ row 1 ((1, 1) ∷ (1, 1) ∷ []) ((0, 1) ∷ []) 0 [] (1 ∷ 1 ∷ 0 ∷ [])
+    ∷ row 0 ((0, 1) ∷ (0, 0) ∷ (1, 0) ∷ []) ((0, 1) ∷ (1, 2) ∷ []) 0 [] (1 ∷ 1 ∷ 0 ∷ 0 ∷ 0 ∷ [])
+    ∷ row 1 ((0, 1) ∷ (1, 0) ∷ (1, 0) ∷ []) ((0, 1) ∷ []) 0 [] (1 ∷ 0 ∷ 0 ∷ 1 ∷ [])
+    ∷ row 0 ((0, 0) ∷ (1, 0) ∷ (0, 0) ∷ []) ((0, 1) ∷ []) 1 (0 ∷ []) (0 ∷ 0 ∷ 1 ∷ 0 ∷ [])
+    ∷ row 3 ((2, 2) ∷ (2, 2) ∷ []) [] 1 [] (2 ∷ 2 ∷ [])
+    ∷ row 3 ((2, 2) ∷ (2, 2) ∷ []) ((0, 1) ∷ []) 0 [] (2 ∷ 2 ∷ 0 ∷ [])
+    ∷ row 0 ((1, 1) ∷ []) [] 1 [] (1 ∷ [])
+    ∷ row 0 ((0, 1) ∷ (1, 0) ∷ []) [] 1 [] (0 ∷ 1 ∷ [])
+    ∷ []
+
+pub starred-agree : T (agree starred)
+unfolding agree rightCount rightSet rightFlow starred holds all any sum over atEnd greatest every before beforeBy skeleton prefix front tokens lack missing smallest runsAt inflow outflow shares rule1 rule2 rule3 rule4 valid otherwiseValid overrun
+starred-agree = tt
+
+-- The plan of document 01's listing: its free count, and each place's end and missing count.
+pub listingNet : Net
+listingNet =
+    record { places = 3; transitions = 2; opening = at (1 ∷ 0 ∷ 0 ∷ []); takes = λ t. at (getD ((1 ∷ 0 ∷ 0 ∷ []) ∷ (0 ∷ 1 ∷ 0 ∷ []) ∷ []) t []); gives = λ t. at (getD ((0 ∷ 1 ∷ 0 ∷ []) ∷ (0 ∷ 0 ∷ 1 ∷ []) ∷ []) t []) }
+
+pub listingPlan : Plan
+listingPlan = record { events = 3; label = at (0 ∷ 0 ∷ 1 ∷ []); pairs = 1; earlier = λ i. 0; later = λ i. 2 }
+
+pub listing-agrees : (free listingPlan ≡ 2) × (endCount listingNet listingPlan 0 ≡ negsuc 0) × (endCount listingNet listingPlan 1 ≡ pos 1) × (endCount listingNet listingPlan 2 ≡ pos 1) × (missing listingNet listingPlan 0 ≡ 1) × (missing listingNet listingPlan 1 ≡ 0) × (missing listingNet listingPlan 2 ≡ 0)
+unfolding listingNet listingPlan free paired endCount tokens missing lack prefix front before beforeBy all any sum over greatest
+listing-agrees = (refl, refl, refl, refl, refl, refl, refl)
+
+-- Four events in a row with the pair (0, 3) given as well: that one pair has events between its ends, so it is no skeleton pair.
+pub chainPlan : Plan
+chainPlan = record { events = 4; label = λ v. 0; pairs = 4; earlier = at (0 ∷ 1 ∷ 2 ∷ 0 ∷ []); later = at (1 ∷ 2 ∷ 3 ∷ 3 ∷ []) }
+
+pub chain-agrees : (skeleton chainPlan 0 ≡ true) × (skeleton chainPlan 1 ≡ true) × (skeleton chainPlan 2 ≡ true) × (skeleton chainPlan 3 ≡ false)
+unfolding chainPlan skeleton before beforeBy any
+chain-agrees = (refl, refl, refl, refl)
