@@ -1,12 +1,12 @@
 -- The sets of numbers below n, each given by the test of its members: the greatest value over all of them, and what holds of each.
 use Prim.Native.Nat.{ℕ, zero, suc, _≤_, _<_, max}
-use native.Mathlib.Nat.{le-of-suc-le-suc, le-step, lt-suc-self, not-suc-le-zero, le-max-left, le-max-right, le-trans, max-eq-left, max-eq-right}
+use native.Mathlib.Nat.{le-of-suc-le-suc, le-step, not-suc-le-zero, max-eq-right}
 use native.Mathlib.Numerals.{lt-of-le-of-ne}
 use native.Mathlib.Omega.{arith}
 use mathlib.Core.Bool.{Bool, true, false, not, _&&_, _||_}
 use mathlib.Core.Logic.{_⊎_, inl, inr, ⊎-elim}
 use mathlib.Core.Path.{_≡_, refl, sym, ap, subst, fun-ext, _∙_}
-use lib.Dec.{T, eqb, eqb-refl, eqb→eq, not-T, T-not, leb, leb→le, nleb→lt}
+use lib.Dec.{T, eqb, eqb-refl, eqb→eq, T-not, leb, leb→le, nleb→lt}
 use mir.Facts.{and-yes, yes-and, or-yes}
 use Rattle.finite.specs.Bounded.{decide, yes-or-left, yes-or-right}
 
@@ -126,3 +126,6 @@ yes-every (suc n) f h =
     (every n (λ D. f (insert n D)))
     (yes-every n f (λ D w. h D (record { below = λ v t. le-step (w .below v t) })))
     (yes-every n (λ D. f (insert n D)) (λ D w. h (insert n D) (within-insert n D w)))
+
+pub greatest-least : (n : ℕ) (f : Set → ℕ) (M : ℕ) → ((D : Set) → Within n D → f D ≤ M) → greatest n f ≤ M
+greatest-least n f M h = let w = greatest-attained n f in omega (arith, h (w .0) (w .1), w .2)

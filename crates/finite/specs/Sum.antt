@@ -1,8 +1,8 @@
 -- Finite sums: of the numbers f i with i below a bound, of those at members of a set, and of those whose index has a given end.
 use Prim.Native.Nat.{ℕ, zero, suc, _+_, _≤_, _<_}
-use native.Mathlib.Nat.{le-step, lt-suc-self, not-suc-le-zero, le-refl, add-zero}
+use native.Mathlib.Nat.{le-step, lt-suc-self, not-suc-le-zero, le-refl, add-zero, zero-add}
 use native.Mathlib.Omega.{arith}
-use mathlib.Core.Bool.{Bool, true, false}
+use mathlib.Core.Bool.{Bool, true, false, _||_}
 use mathlib.Core.Path.{_≡_, refl, sym, ap, ap₂, subst, _∙_}
 use lib.Dec.{T, eqb, eqb-refl, eqb→eq}
 use Rattle.finite.specs.Bounded.{below-suc}
@@ -108,7 +108,7 @@ on-add : (b : Bool) (x y : ℕ) → on b (x + y) ≡ on b x + on b y
 on-add true x y = refl
 on-add false x y = refl
 
-on-swap : (b c : Bool) (x : ℕ) → on b (on c x) ≡ on c (on b x)
+pub on-swap : (b c : Bool) (x : ℕ) → on b (on c x) ≡ on c (on b x)
 on-swap true c x = refl
 on-swap false true x = refl
 on-swap false false x = refl
@@ -121,3 +121,25 @@ over-ends n (suc m) S e x h =
     sum-ext n _ (λ v. on (S v) (atEnd m e x v) + on (eqb (e m) v) (on (S v) (x m))) (λ v l. on-add (S v) (atEnd m e x v) (on (eqb (e m) v) (x m)) ∙ ap (λ (y : ℕ). on (S v) (atEnd m e x v) + y) (on-swap (S v) (eqb (e m) v) (x m)))
     ∙ sum-add n (λ v. on (S v) (atEnd m e x v)) (λ v. on (eqb (e m) v) (on (S v) (x m)))
     ∙ ap₂ _+_ (over-ends n m S e x (λ i l. h i (le-step l))) (sum-one n (e m) (λ v. on (S v) (x m)) (h m (lt-suc-self m)))
+
+pub over-add : (n : ℕ) (S : ℕ → Bool) (f g : ℕ → ℕ) → over n S (λ v. f v + g v) ≡ over n S f + over n S g
+unfolding over
+over-add n S f g = sum-ext n _ _ (λ v l. on-add (S v) (f v) (g v)) ∙ sum-add n (λ v. on (S v) (f v)) (λ v. on (S v) (g v))
+
+-- two sets without a common member
+pub over-either : (n : ℕ) (S R : ℕ → Bool) (f : ℕ → ℕ) → ((v : ℕ) → T (S v) → T (R v) → ⊥) → over n (λ v. S v || R v) f ≡ over n S f + over n R f
+unfolding over
+over-either n S R f apart = sum-ext n _ _ (λ v l. split (S v) (R v) (f v) (apart v)) ∙ sum-add n (λ v. on (S v) (f v)) (λ v. on (R v) (f v))
+  where
+    split : (b c : Bool) (x : ℕ) → (T b → T c → ⊥) → on (b || c) x ≡ on b x + on c x
+    split true true x h = absurd (h tt tt)
+    split true false x h = sym (add-zero x)
+    split false c x h = sym (zero-add (on c x))
+
+pub over-mono : (n : ℕ) (S R : ℕ → Bool) (f : ℕ → ℕ) → ((v : ℕ) → v < n → T (S v) → T (R v)) → over n S f ≤ over n R f
+unfolding over
+over-mono n S R f h = sum-mono n _ _ (λ v l. on-mono (S v) (R v) (f v) (h v l))
+
+pub over-all : (n : ℕ) (S : ℕ → Bool) (f : ℕ → ℕ) → over n S f ≤ sum n f
+unfolding over
+over-all n S f = sum-mono n _ _ (λ v l. on-le (S v) (f v))

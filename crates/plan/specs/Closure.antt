@@ -1,7 +1,7 @@
 -- The test of "before" passes exactly if one event is before the other, in every plan.
 use Prim.Native.Nat.{ℕ, zero, suc, _≤_, _<_}
-use native.Mathlib.Nat.{le-refl, le-of-lt, not-suc-le-zero, lt-suc-self}
-use mathlib.Core.Bool.{Bool, _&&_, _||_}
+use native.Mathlib.Nat.{le-refl, le-of-lt, not-suc-le-zero}
+use mathlib.Core.Bool.{_||_}
 use mathlib.Core.Logic.{_⊎_, inl, inr, ⊎-elim, _↔_}
 use mathlib.Core.Path.{_≡_, refl, sym, subst}
 use lib.Dec.{T, eqb, eqb→eq, eqb-refl}

@@ -1,14 +1,14 @@
 -- Document 01's starred examples, all twelve in one list, and what it and 003 show of the order: one theorem for each list.
-use Prim.Native.Nat.{ℕ, _<_}
+use Prim.Native.Nat.{ℕ}
 use mathlib.Core.Bool.{Bool, true, false, _&&_, Bool·beq}
 use mathlib.Core.List.{List, [], _∷_}
 use mathlib.Core.Path.{_≡_, refl}
 use lib.Dec.{T, eqb, ltb}
-use lib.IntN.{ℤ, pos, negsuc}
+use lib.IntN.{pos, negsuc}
 use lib.ListN.{getD, length}
 use Rattle.finite.specs.Bounded.{all, any, _⇒_}
 use Rattle.finite.specs.Subset.{Set, greatest, every}
-use Rattle.finite.specs.Sum.{sum, over, atEnd, on}
+use Rattle.finite.specs.Sum.{sum, over, atEnd}
 use Rattle.plan.specs.Net.{Net, Plan}
 use Rattle.plan.specs.Order.{before, beforeBy, skeleton, paired, free}
 use Rattle.plan.specs.Prefix.{prefix, front, tokens, lack, missing, smallest, endCount, runsAt}
@@ -32,11 +32,23 @@ row o es ps m d x = record { opening = o; events = es; pairs = ps; missing = m; 
 
 abbrev netOf : Example → Net
 netOf e =
-    record { places = 1; transitions = length (e .events); opening = λ p. e .opening; takes = λ t p. getD (e .events) t (0, 0) .0; gives = λ t p. getD (e .events) t (0, 0) .1 }
+    record {
+      places = 1;
+      transitions = length (e .events);
+      opening = λ p. e .opening;
+      takes = λ t p. getD (e .events) t (0, 0) .0;
+      gives = λ t p. getD (e .events) t (0, 0) .1;
+    }
 
 abbrev planOf : Example → Plan
 planOf e =
-    record { events = length (e .events); label = λ v. v; pairs = length (e .pairs); earlier = λ i. getD (e .pairs) i (0, 0) .0; later = λ i. getD (e .pairs) i (0, 0) .1 }
+    record {
+      events = length (e .events);
+      label = λ v. v;
+      pairs = length (e .pairs);
+      earlier = λ i. getD (e .pairs) i (0, 0) .0;
+      later = λ i. getD (e .pairs) i (0, 0) .1;
+    }
 
 holds : List ℕ → Set
 holds [] v = false
@@ -87,7 +99,13 @@ starred-agree = tt
 -- The plan of document 01's listing: its free count, and each place's end and missing count.
 pub listingNet : Net
 listingNet =
-    record { places = 3; transitions = 2; opening = at (1 ∷ 0 ∷ 0 ∷ []); takes = λ t. at (getD ((1 ∷ 0 ∷ 0 ∷ []) ∷ (0 ∷ 1 ∷ 0 ∷ []) ∷ []) t []); gives = λ t. at (getD ((0 ∷ 1 ∷ 0 ∷ []) ∷ (0 ∷ 0 ∷ 1 ∷ []) ∷ []) t []) }
+    record {
+      places = 3;
+      transitions = 2;
+      opening = at (1 ∷ 0 ∷ 0 ∷ []);
+      takes = λ t. at (getD ((1 ∷ 0 ∷ 0 ∷ []) ∷ (0 ∷ 1 ∷ 0 ∷ []) ∷ []) t []);
+      gives = λ t. at (getD ((0 ∷ 1 ∷ 0 ∷ []) ∷ (0 ∷ 0 ∷ 1 ∷ []) ∷ []) t []);
+    }
 
 pub listingPlan : Plan
 listingPlan = record { events = 3; label = at (0 ∷ 0 ∷ 1 ∷ []); pairs = 1; earlier = λ i. 0; later = λ i. 2 }

@@ -4,4 +4,5 @@ pub mod Closure
 pub mod Prefix
 pub mod Cut
 pub mod Flow
+pub mod Compare
 pub mod Examples

@@ -1,12 +1,12 @@
 -- Done sets, what a place lacks at them, and the verdict. Document 01, "Net, plan and verdict".
 -- Document 01's done set is the field's prefix (003, section 2; 002, section 3), its front the minimal events of the rest.
 use Prim.Native.Nat.{ℕ, _<_}
-use mathlib.Core.Bool.{Bool, true, false, not, _&&_}
+use mathlib.Core.Bool.{Bool, true, not, _&&_}
 use lib.Dec.{T, eqb}
 use lib.IntN.{ℤ, pos, negsuc, _+ℤ_, _-ℤ_}
 use Rattle.finite.specs.Bounded.{all, _⇒_}
 use Rattle.finite.specs.Subset.{Set, greatest, every}
-use Rattle.finite.specs.Sum.{sum, over, on}
+use Rattle.finite.specs.Sum.{over, on}
 use Rattle.plan.specs.Net.{Net, Plan, takenBy, givenBy}
 use Rattle.plan.specs.Order.{Before, before}
 

@@ -1,0 +1,12 @@
+pub mod Signs
+pub mod Stage
+pub mod Existence
+pub mod Skeleton
+pub mod Prefixes
+pub mod Missing
+pub mod Duality
+pub mod Comparisons
+pub mod Overrun
+pub mod Smallest
+pub mod Cuts
+pub mod Theorems
