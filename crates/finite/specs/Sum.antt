@@ -1,6 +1,7 @@
 -- Finite sums: of the numbers f i with i below a bound, of those at members of a set, and of those whose index has a given end.
 use Prim.Native.Nat.{ℕ, zero, suc, _+_, _≤_, _<_}
-use native.Mathlib.Nat.{le-step, lt-suc-self, not-suc-le-zero, le-refl, add-zero, zero-add}
+use native.Mathlib.Nat.{le-step, lt-suc-self, not-suc-le-zero, le-refl, add-zero, zero-add, lt-irrefl, lt-of-lt-of-le, eq-or-lt-of-le}
+use mathlib.Core.Logic.{⊎-elim}
 use native.Mathlib.Omega.{arith}
 use mathlib.Core.Bool.{Bool, true, false, _||_}
 use mathlib.Core.Path.{_≡_, refl, sym, ap, ap₂, subst, _∙_}
@@ -143,3 +144,21 @@ over-mono n S R f h = sum-mono n _ _ (λ v l. on-mono (S v) (R v) (f v) (h v l))
 pub over-all : (n : ℕ) (S : ℕ → Bool) (f : ℕ → ℕ) → over n S f ≤ sum n f
 unfolding over
 over-all n S f = sum-mono n _ _ (λ v l. on-le (S v) (f v))
+
+-- rows first or columns first
+pub sum-swap : (n m : ℕ) (f : ℕ → ℕ → ℕ) → sum n (λ i. sum m (λ j. f i j)) ≡ sum m (λ j. sum n (λ i. f i j))
+unfolding sum
+sum-swap zero m f = sym (sum-zero m (λ j. 0) (λ j l. refl))
+sum-swap (suc n) m f = ap (λ (z : ℕ). z + sum m (λ j. f n j)) (sum-swap n m f) ∙ sym (sum-add m (λ j. sum n (λ i. f i j)) (λ j. f n j))
+
+-- equal sums of terms none of which is above its partner: equal terms
+pub sum-tight : (n : ℕ) (f g : ℕ → ℕ) → ((i : ℕ) → i < n → f i ≤ g i) → sum n g ≤ sum n f → (k : ℕ) → k < n → f k ≡ g k
+sum-tight n f g h e k l =
+    ⊎-elim
+    (λ same. same)
+    (λ less. absurd (lt-irrefl (sum n f) (lt-of-lt-of-le (sum-strict n f g h k l less) e)))
+    (eq-or-lt-of-le (h k l))
+
+pub on-sum : (b : Bool) (n : ℕ) (f : ℕ → ℕ) → on b (sum n f) ≡ sum n (λ i. on b (f i))
+on-sum true n f = refl
+on-sum false n f = sym (sum-zero n (λ i. 0) (λ i l. refl))

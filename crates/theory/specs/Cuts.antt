@@ -18,7 +18,7 @@ use Rattle.plan.specs.Closure.{before-test}
 use Rattle.plan.specs.Prefix.{IsPrefix, front, tokens}
 use Rattle.plan.specs.Cut.{IsCoset, IsCut, preset, Covered, Executable}
 use Rattle.theory.specs.Missing.{taken, supply}
-use Rattle.theory.specs.Prefixes.{reached, front-yes, yes-front}
+use Rattle.theory.specs.Prefixes.{reached, front-yes, yes-front, preset-yes, yes-preset, preset-prefix}
 use Rattle.theory.specs.Signs.{tokens-minus, le-minus}
 use Rattle.theory.specs.Skeleton.{before-earlier, before-later}
 
@@ -83,21 +83,6 @@ module _ (N : Net) (P : Plan) (p : ℕ) (S : Sound P) where
   strict : (v : ℕ) → T (before P v v) → ⊥
   strict v t = S .acyclic v (before-test P v v .0 t)
 
-  preset-yes : (C : Set) (v : ℕ) → T (preset P C v) → (w : ℕ) × T (C w) × Before P v w
-  unfolding preset
-  preset-yes C v t =
-      let w = any-yes (P .events) _ t in
-      let b = and-yes (C (w .0)) (before P v (w .0)) (w .2) in
-      (w .0, b .0, before-test P v (w .0) .0 (b .1))
-
-  yes-preset : (C : Set) (v w : ℕ) → T (C w) → Before P v w → T (preset P C v)
-  unfolding preset
-  yes-preset C v w c b = yes-any (P .events) _ w (before-later P S b) (yes-and (C w) (before P v w) c (before-test P v w .1 b))
-
-  preset-prefix : (C : Set) → IsPrefix P (preset P C)
-  preset-prefix C =
-      record { events = λ v t. before-earlier P S (preset-yes C v t .2); closed = λ u v b t. let w = preset-yes C v t in yes-preset C u (w .0) (w .1) (chain b (w .2)) }
-
   covered : (C : Set) → Covered N P p C ↔ (over (P .events) C (takenBy N P p) + over (P .events) (preset P C) (takenBy N P p) ≤ supply N P p (preset P C))
   unfolding Covered tokens supply
   covered C =
@@ -114,12 +99,12 @@ module _ (N : Net) (P : Plan) (p : ℕ) (S : Sound P) where
       P
       (preset P C)
       v
-      (record { outside = not-T (preset P C v) (λ h. let w = preset-yes C v h in c .unordered v (w .0) t (w .1) (w .2)); ready = λ u l b. yes-preset C u v t b })
+      (record { outside = not-T (preset P C v) (λ h. let w = preset-yes P S C v h in c .unordered v (w .0) t (w .1) (w .2)); ready = λ u l b. yes-preset P S C u v t b })
 
   pub prefixes-cuts : ((D : Set) → IsPrefix P D → taken N P p D ≤ supply N P p D) → Executable N P p
   unfolding taken
   prefixes-cuts h =
-      record { cuts = λ C c. covered C .1 (omega (arith, h (preset P C) (preset-prefix C), over-either (P .events) (preset P C) (front P (preset P C)) (takenBy N P p) (λ v d f. T-not (preset P C v) (front-yes P (preset P C) v f .outside) d), over-mono (P .events) C (front P (preset P C)) (takenBy N P p) (λ v l t. cut-front C (c .coset) v t))) }
+      record { cuts = λ C c. covered C .1 (omega (arith, h (preset P C) (preset-prefix P S C), over-either (P .events) (preset P C) (front P (preset P C)) (takenBy N P p) (λ v d f. T-not (preset P C v) (front-yes P (preset P C) v f .outside) d), over-mono (P .events) C (front P (preset P C)) (takenBy N P p) (λ v l t. cut-front C (c .coset) v t))) }
 
   module _ (D : Set) (d : IsPrefix P D) where
     U : Set
@@ -184,7 +169,7 @@ module _ (N : Net) (P : Plan) (p : ℕ) (S : Sound P) where
         }) in
         ⊎-elim
         (λ e. inl (subst (λ (z : ℕ). T (maximal z)) e m))
-        (λ r. inr (yes-preset maximal v (w .top) m (before-test P v (w .top) .0 r)))
+        (λ r. inr (yes-preset P S maximal v (w .top) m (before-test P v (w .top) .0 r)))
         (w .above)
 
     -- every event that isn't done is in the front or after an event of it
@@ -212,7 +197,7 @@ module _ (N : Net) (P : Plan) (p : ℕ) (S : Sound P) where
         reachedCase E e h v t u =
             ⊎-elim
             (λ m. m)
-            (λ r. let w = preset-yes maximal v r in absurd (e .unordered v (w .0) t (h (w .0) (w .1)) (w .2)))
+            (λ r. let w = preset-yes P S maximal v r in absurd (e .unordered v (w .0) t (h (w .0) (w .1)) (w .2)))
             (under v (e .events v t) u)
 
         grown : (E : Set) → IsCoset P E → ((v : ℕ) → T (maximal v) → T (E v)) → (v : ℕ) → T (E v) → T (maximal v)
@@ -243,7 +228,7 @@ module _ (N : Net) (P : Plan) (p : ℕ) (S : Sound P) where
     cut-supply : supply N P p (preset P maximal) ≤ supply N P p D
     unfolding supply
     cut-supply =
-        omega (arith, over-mono (P .events) (preset P maximal) D (givenBy N P p) (λ v l t. let w = preset-yes maximal v t in done-before v (w .0) (w .2) (maximal-yes (w .0) (w .1) .reaches)))
+        omega (arith, over-mono (P .events) (preset P maximal) D (givenBy N P p) (λ v l t. let w = preset-yes P S maximal v t in done-before v (w .0) (w .2) (maximal-yes (w .0) (w .1) .reaches)))
 
   pub cuts-prefixes : Executable N P p → (D : Set) → IsPrefix P D → taken N P p D ≤ supply N P p D
   cuts-prefixes x D d =

@@ -10,3 +10,4 @@ pub mod Overrun
 pub mod Smallest
 pub mod Cuts
 pub mod Theorems
+pub mod Tokenflow

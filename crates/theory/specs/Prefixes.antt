@@ -1,4 +1,4 @@
--- Done sets and fronts by what their tests say, and as stages: by all pairs, and by skeleton pairs alone.
+-- Done sets, fronts and presets by what their tests say, and as stages: by all pairs, and by skeleton pairs alone.
 use Prim.Native.Nat.{ℕ, zero, suc, _<_}
 use native.Mathlib.Nat.{not-suc-le-zero, lt-suc-self}
 use native.Mathlib.Omega.{arith}
@@ -7,12 +7,13 @@ use mathlib.Core.Logic.{⊎-elim, _↔_}
 use mathlib.Core.Path.{sym, subst}
 use lib.Dec.{T}
 use mir.Facts.{and-yes, yes-and, or-yes}
-use Rattle.finite.specs.Bounded.{all, all-yes, yes-all, _⇒_, imp-yes, yes-imp, decide, yes-or-left, yes-or-right}
+use Rattle.finite.specs.Bounded.{any-yes, yes-any, all, all-yes, yes-all, _⇒_, imp-yes, yes-imp, decide, yes-or-left, yes-or-right}
 use Rattle.finite.specs.Subset.{Set, Within, empty}
 use Rattle.plan.specs.Net.{Plan}
-use Rattle.plan.specs.Order.{Before, pair, before, Sound, skeleton}
+use Rattle.plan.specs.Order.{Before, pair, chain, before, Sound, skeleton}
 use Rattle.plan.specs.Closure.{before-test}
 use Rattle.plan.specs.Prefix.{IsPrefix, prefix, front}
+use Rattle.plan.specs.Cut.{preset}
 use Rattle.theory.specs.Skeleton.{before-later, before-earlier, last-link, between, earlier-end}
 use Rattle.theory.specs.Stage.{Stage, either}
 
@@ -65,6 +66,23 @@ within P D p = record { below = p .events }
 
 pub empty-prefix : (P : Plan) → IsPrefix P empty
 empty-prefix P = record { events = λ v t. absurd t; closed = λ u v b t. absurd t }
+
+-- the events before some member of a set
+module _ (P : Plan) (S : Sound P) where
+  pub preset-yes : (C : Set) (v : ℕ) → T (preset P C v) → (w : ℕ) × T (C w) × Before P v w
+  unfolding preset
+  preset-yes C v t =
+      let w = any-yes (P .events) _ t in
+      let b = and-yes (C (w .0)) (before P v (w .0)) (w .2) in
+      (w .0, b .0, before-test P v (w .0) .0 (b .1))
+
+  pub yes-preset : (C : Set) (v w : ℕ) → T (C w) → Before P v w → T (preset P C v)
+  unfolding preset
+  yes-preset C v w c b = yes-any (P .events) _ w (before-later P S b) (yes-and (C w) (before P v w) c (before-test P v w .1 b))
+
+  pub preset-prefix : (C : Set) → IsPrefix P (preset P C)
+  preset-prefix C =
+      record { events = λ v t. before-earlier P S (preset-yes C v t .2); closed = λ u v b t. let w = preset-yes C v t in yes-preset C u (w .0) (w .1) (chain b (w .2)) }
 
 -- a done set with its front
 abbrev pub reached : Plan → Set → Set
