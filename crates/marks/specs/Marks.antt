@@ -20,6 +20,10 @@ marked rows i j = bit (getD rows (i * 8 + j / 32) 0) (j % 32)
 abbrev pub HasRow : List ℕ → ℕ → Type 0
 HasRow rows i = i * 8 + 8 ≤ length rows
 
+-- The first n rows lie within the words.
+abbrev pub HasRows : List ℕ → ℕ → Type 0
+HasRows rows n = n * 8 ≤ length rows
+
 -- Row i of a and row j of b have a mark in common.
 unfoldable pub meeting : List ℕ → ℕ → List ℕ → ℕ → Bool
 meeting a i b j = any 256 (λ w. marked a i w && marked b j w)
