@@ -1,13 +1,12 @@
 -- A mark in common between the row of what is after a and the row of what is before b is an event between a and b.
 use Prim.Native.Nat.{ℕ, _≤_, _<_}
-use native.Mathlib.Nat.{le-trans, lt-of-lt-of-le}
+use native.Mathlib.Nat.{lt-of-lt-of-le}
 use mathlib.Core.Bool.{Bool, _&&_}
 use mathlib.Core.List.{List}
-use mathlib.Core.Logic.{⊎-elim}
 use mathlib.Core.Path.{_≡_, sym, ap₂, subst}
-use lib.Dec.{T, ltb, ltb→lt, nltb→le}
+use lib.Dec.{T}
 use mir.Facts.{and-yes}
-use Rattle.finite.specs.Bounded.{any, any-yes, yes-any, decide, same}
+use Rattle.finite.specs.Bounded.{any, any-yes, yes-any, same}
 use Rattle.marks.specs.Marks.{marked, meeting}
 
 -- Here B u v says that u is before v. Only events below n are marked in the row of a.

@@ -11,9 +11,9 @@ use Rattle.plan.specs.Net.{Plan}
 use Rattle.plan.specs.Order.{Before, pair, chain}
 use Rattle.closure.specs.Reach.{reach, reach-step, reach-chain, reach-least, reach-turned}
 
--- (u, v) is an order pair of the plan
-unfoldable pub isPair : Plan → ℕ → ℕ → Bool
-isPair P u v = any (P .pairs) (λ i. eqb (P .earlier i) u && eqb (P .later i) v)
+-- (u, v) is one of the first m order pairs
+unfoldable pub isPair : Plan → ℕ → ℕ → ℕ → Bool
+isPair P m u v = any m (λ i. eqb u (P .earlier i) && eqb v (P .later i))
 
 -- the pairs name events
 pub record Named (P : Plan) : Type 0 where
@@ -21,23 +21,23 @@ pub record Named (P : Plan) : Type 0 where
   pub later : (i : ℕ) → i < P .pairs → P .later i < P .events
 
 module _ (P : Plan) where
-  pair-before : (u v : ℕ) → T (isPair P u v) → Before P u v
+  pub pair-before : (u v : ℕ) → T (isPair P (P .pairs) u v) → Before P u v
   unfolding isPair
   pair-before u v h =
-      let some = any-yes (P .pairs) (λ i. eqb (P .earlier i) u && eqb (P .later i) v) h in
+      let some = any-yes (P .pairs) (λ i. eqb u (P .earlier i) && eqb v (P .later i)) h in
       let i = some .0 in
-      let ends = and-yes (eqb (P .earlier i) u) (eqb (P .later i) v) (some .2) in
+      let ends = and-yes (eqb u (P .earlier i)) (eqb v (P .later i)) (some .2) in
       subst
       (λ (x : ℕ). Before P x v)
-      (eqb→eq (P .earlier i) u (ends .0))
-      (subst (λ (y : ℕ). Before P (P .earlier i) y) (eqb→eq (P .later i) v (ends .1)) (pair i (some .1)))
+      (sym (eqb→eq u (P .earlier i) (ends .0)))
+      (subst (λ (y : ℕ). Before P (P .earlier i) y) (sym (eqb→eq v (P .later i) (ends .1))) (pair i (some .1)))
 
-  is-pair : (i : ℕ) → i < P .pairs → T (isPair P (P .earlier i) (P .later i))
+  is-pair : (i : ℕ) → i < P .pairs → T (isPair P (P .pairs) (P .earlier i) (P .later i))
   unfolding isPair
   is-pair i l =
       yes-any
       (P .pairs)
-      (λ j. eqb (P .earlier j) (P .earlier i) && eqb (P .later j) (P .later i))
+      (λ j. eqb (P .earlier i) (P .earlier j) && eqb (P .later i) (P .later j))
       i
       l
       (yes-and
@@ -52,7 +52,7 @@ module _ (P : Plan) where
     before-events (pair i l) = (named .earlier i l, named .later i l)
     before-events (chain p q) = (before-events p .0, before-events q .1)
 
-    module _ (R : ℕ → ℕ → Bool) (h : (u v : ℕ) → u < P .events → v < P .events → R u v ≡ isPair P u v) where
+    module _ (R : ℕ → ℕ → Bool) (h : (u v : ℕ) → u < P .events → v < P .events → R u v ≡ isPair P (P .pairs) u v) where
       reach-all : {u v : ℕ} → Before P u v → T (reach (P .events) R u v)
       reach-all (pair i l) =
           reach-step
@@ -83,9 +83,9 @@ module _ (P : Plan) where
       )
 
     -- Marks of the turned pairs, closed, are the marks of what is after.
-    pub reach-after : (S : ℕ → ℕ → Bool) → ((u v : ℕ) → u < P .events → v < P .events → S u v ≡ isPair P v u)
+    pub reach-after : (S : ℕ → ℕ → Bool) → ((u v : ℕ) → u < P .events → v < P .events → S u v ≡ isPair P (P .pairs) v u)
         → (u v : ℕ) → u < P .events → v < P .events → T (reach (P .events) S u v) ↔ Before P v u
     reach-after S h u v hu hv =
-        let turned = reach-turned (isPair P) S (P .events) h (P .events) u v (le-refl (P .events)) hu hv in
-        let is = reach-before (isPair P) (λ x y hx hy. refl) v u hv hu in
+        let turned = reach-turned (isPair P (P .pairs)) S (P .events) h (P .events) u v (le-refl (P .events)) hu hv in
+        let is = reach-before (isPair P (P .pairs)) (λ x y hx hy. refl) v u hv hu in
         (λ t. is .0 (subst T turned t), λ b. subst T (sym turned) (is .1 b))

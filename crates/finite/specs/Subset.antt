@@ -3,7 +3,7 @@ use Prim.Native.Nat.{ℕ, zero, suc, _≤_, _<_, max}
 use native.Mathlib.Nat.{le-of-suc-le-suc, le-step, lt-suc-self, not-suc-le-zero, le-max-left, le-max-right, le-trans, max-eq-left, max-eq-right}
 use native.Mathlib.Numerals.{lt-of-le-of-ne}
 use native.Mathlib.Omega.{arith}
-use mathlib.Core.Bool.{Bool, true, false, not, _&&_, _||_}
+use mathlib.Core.Bool.{Bool, false, not, _&&_, _||_}
 use mathlib.Core.Logic.{_⊎_, inl, inr, ⊎-elim}
 use mathlib.Core.Path.{_≡_, refl, sym, ap, subst, fun-ext, _∙_}
 use lib.Dec.{T, eqb, eqb-refl, eqb→eq, not-T, T-not, leb, leb→le, nleb→lt}

@@ -1,14 +1,14 @@
 -- The bits of a word: of a union, of what two words have in common, of a power of two, and that a word above 0 has one.
-use Prim.Native.Nat.{ℕ, zero, suc, _+_, _*_, _/_, _%_, _^_, _<_, suc-le-suc, min, max}
+use Prim.Native.Nat.{ℕ, zero, suc, _*_, _/_, _%_, _^_, _<_, suc-le-suc, min, max}
 use native.Mathlib.Nat.{div-one, zero-lt-suc, le-of-suc-le-suc, not-suc-le-zero, pow-suc}
 use native.Mathlib.Numerals.{one-add}
 use native.Mathlib.Omega.{arith}
-use mathlib.Core.Bool.{Bool, true, false, _&&_, _||_}
+use mathlib.Core.Bool.{_&&_, _||_}
 use mathlib.Core.Logic.{⊎-elim}
 use mathlib.Core.Path.{_≡_, refl, sym, ap, subst, _∙_}
 use lib.Arith.{lt-one}
 use lib.Bits.{bitAnd, bitOr, and-step, and-shr, or-step, or-shr, shifted-half, shifted-even}
-use lib.Dec.{T, eqb, eqb→eq, eqb·suc-suc, eqb·suc-zero, eqb·zero-suc}
+use lib.Dec.{T, eqb, eqb·suc-suc, eqb·suc-zero, eqb·zero-suc}
 use lib.Pow.{shr-shr}
 use mir.Facts.{eqb-no}
 use Rattle.finite.specs.Bounded.{decide}
@@ -20,33 +20,34 @@ or-digit a b = omega (arith, or-step a b)
 and-digit : (a b : ℕ) → bitAnd a b % 2 ≡ min (a % 2) (b % 2)
 and-digit a b = omega (arith, and-step a b)
 
-max-test : (x y : ℕ) → x < 2 → y < 2 → eqb (max x y) 1 ≡ (eqb x 1 || eqb y 1)
-max-test zero zero h k = refl
-max-test zero (suc zero) h k = refl
-max-test (suc zero) zero h k = refl
-max-test (suc zero) (suc zero) h k = refl
-max-test (suc (suc x)) y h k = absurd (not-suc-le-zero (le-of-suc-le-suc (le-of-suc-le-suc h)))
-max-test zero (suc (suc y)) h k = absurd (not-suc-le-zero (le-of-suc-le-suc (le-of-suc-le-suc k)))
-max-test (suc zero) (suc (suc y)) h k = absurd (not-suc-le-zero (le-of-suc-le-suc (le-of-suc-le-suc k)))
+below-two : (F : ℕ → Type 0) → F 0 → F 1 → (x : ℕ) → x < 2 → F x
+below-two F f g zero h = f
+below-two F f g (suc zero) h = g
+below-two F f g (suc (suc x)) h = absurd (not-suc-le-zero (le-of-suc-le-suc (le-of-suc-le-suc h)))
 
-min-test : (x y : ℕ) → x < 2 → y < 2 → eqb (min x y) 1 ≡ (eqb x 1 && eqb y 1)
-min-test zero zero h k = refl
-min-test zero (suc zero) h k = refl
-min-test (suc zero) zero h k = refl
-min-test (suc zero) (suc zero) h k = refl
-min-test (suc (suc x)) y h k = absurd (not-suc-le-zero (le-of-suc-le-suc (le-of-suc-le-suc h)))
-min-test zero (suc (suc y)) h k = absurd (not-suc-le-zero (le-of-suc-le-suc (le-of-suc-le-suc k)))
-min-test (suc zero) (suc (suc y)) h k = absurd (not-suc-le-zero (le-of-suc-le-suc (le-of-suc-le-suc k)))
+max-test : (x : ℕ) → x < 2 → (y : ℕ) → y < 2 → eqb (max x y) 1 ≡ (eqb x 1 || eqb y 1)
+max-test =
+    below-two
+    (λ x. (y : ℕ) → y < 2 → eqb (max x y) 1 ≡ (eqb x 1 || eqb y 1))
+    (below-two (λ y. eqb (max 0 y) 1 ≡ (eqb 0 1 || eqb y 1)) refl refl)
+    (below-two (λ y. eqb (max 1 y) 1 ≡ (eqb 1 1 || eqb y 1)) refl refl)
+
+min-test : (x : ℕ) → x < 2 → (y : ℕ) → y < 2 → eqb (min x y) 1 ≡ (eqb x 1 && eqb y 1)
+min-test =
+    below-two
+    (λ x. (y : ℕ) → y < 2 → eqb (min x y) 1 ≡ (eqb x 1 && eqb y 1))
+    (below-two (λ y. eqb (min 0 y) 1 ≡ (eqb 0 1 && eqb y 1)) refl refl)
+    (below-two (λ y. eqb (min 1 y) 1 ≡ (eqb 1 1 && eqb y 1)) refl refl)
 
 pub bit-or : (a b k : ℕ) → bit (bitOr a b) k ≡ (bit a k || bit b k)
 unfolding bit
 bit-or a b k =
-    rw (or-shr a b k, or-digit (a / 2 ^ k) (b / 2 ^ k)) (max-test (a / 2 ^ k % 2) (b / 2 ^ k % 2) (omega arith) (omega arith))
+    rw (or-shr a b k, or-digit (a / 2 ^ k) (b / 2 ^ k)) (max-test (a / 2 ^ k % 2) (omega arith) (b / 2 ^ k % 2) (omega arith))
 
 pub bit-and : (a b k : ℕ) → bit (bitAnd a b) k ≡ (bit a k && bit b k)
 unfolding bit
 bit-and a b k =
-    rw (and-shr a b k, and-digit (a / 2 ^ k) (b / 2 ^ k)) (min-test (a / 2 ^ k % 2) (b / 2 ^ k % 2) (omega arith) (omega arith))
+    rw (and-shr a b k, and-digit (a / 2 ^ k) (b / 2 ^ k)) (min-test (a / 2 ^ k % 2) (omega arith) (b / 2 ^ k % 2) (omega arith))
 
 -- the bits from the second on are those of the half
 bit-suc : (w k : ℕ) → bit w (suc k) ≡ bit (w / 2) k

@@ -1,10 +1,10 @@
 -- What storing a union at one word does to the marks: a mark is added, or a row joined word by word.
-use Prim.Native.Nat.{ℕ, zero, _+_, _*_, _/_, _%_, _^_, _≤_, _<_}
+use Prim.Native.Nat.{ℕ, _+_, _*_, _/_, _%_, _^_, _≤_, _<_}
 use native.Mathlib.Omega.{arith}
-use mathlib.Core.Bool.{Bool, true, false, not, _&&_, _||_, or-false, or-self}
+use mathlib.Core.Bool.{Bool, true, false, not, _&&_, _||_, and-false, or-false, or-self}
 use mathlib.Core.List.{List}
 use mathlib.Core.Logic.{⊎-elim}
-use mathlib.Core.Path.{_≡_, refl, sym, ap, ap₂, subst, _∙_}
+use mathlib.Core.Path.{_≡_, refl, sym, ap, subst, _∙_}
 use borrow.Author.Tests.{eq-eqb, ne-eqb, lt-ltb, le-ltb}
 use lib.Bits.{bitOr}
 use lib.Dec.{T, eqb, ltb, eqb→eq, ltb→lt, lit<}
@@ -13,7 +13,7 @@ use lib.Pow.{shl-exact}
 use lib.Seq.{getD-set-same, getD-set-other}
 use mir.Facts.{and-yes, yes-and, yes-eqb, yes-ltb, eqb-no}
 use Rattle.finite.specs.Bounded.{decide, same}
-use Rattle.marks.specs.Marks.{bit, marked, HasRow, MarkAdded, RowJoined}
+use Rattle.marks.specs.Marks.{bit, marked, wordOf, HasRow, MarkAdded, RowJoined}
 use Rattle.marks.proofs.Bits.{bit-or, bit-one}
 
 -- the bits after x is united into the word at p
@@ -24,44 +24,58 @@ word-or rows p x q k h = ⊎-elim at-it elsewhere (decide (eqb q p))
     w : ℕ
     w = bitOr (getD rows p 0) x
 
-    here : bit (getD (set rows p w) p 0) k ≡ (bit (getD rows p 0) k || (eqb p p && bit x k))
+    After : ℕ → Type 0
+    After i = bit (getD (set rows p w) i 0) k ≡ (bit (getD rows i 0) k || (eqb i p && bit x k))
+
+    here : After p
     here = rw (getD-set-same rows p w 0 h, eq-eqb p p refl) (bit-or (getD rows p 0) x k)
 
-    at-it : T (eqb q p) → bit (getD (set rows p w) q 0) k ≡ (bit (getD rows q 0) k || (eqb q p && bit x k))
-    at-it t = subst (λ (i : ℕ). bit (getD (set rows p w) i 0) k ≡ (bit (getD rows i 0) k || (eqb i p && bit x k))) (sym (eqb→eq q p t)) here
+    at-it : T (eqb q p) → After q
+    at-it t = subst After (sym (eqb→eq q p t)) here
 
-    elsewhere : T (not (eqb q p)) → bit (getD (set rows p w) q 0) k ≡ (bit (getD rows q 0) k || (eqb q p && bit x k))
-    elsewhere t = rw (getD-set-other rows p q w 0 (eqb-no t), ne-eqb q p (eqb-no t)) (sym (or-false (bit (getD rows q 0) k)))
+    elsewhere : T (not (eqb q p)) → After q
+    elsewhere t =
+        rw (getD-set-other rows p q w 0 (eqb-no t), ne-eqb q p (eqb-no t)) (sym (or-false (bit (getD rows q 0) k)))
 
 -- the place of a mark tells its row and its column
-place : (u v i j : ℕ) → v < 256 → j < 256
-    → (eqb (u * 8 + v / 32) (i * 8 + j / 32) && eqb (v % 32) (j % 32)) ≡ (eqb u i && eqb v j)
-place u v i j hv hj = same _ _ to from
+place : (u v i j : ℕ) → v < 256 → j < 256 → (eqb (wordOf u v) (wordOf i j) && eqb (v % 32) (j % 32)) ≡ (eqb u i && eqb v j)
+place u v i j hv hj = same (eqb (wordOf u v) (wordOf i j) && eqb (v % 32) (j % 32)) (eqb u i && eqb v j) to from
   where
-    to : T (eqb (u * 8 + v / 32) (i * 8 + j / 32) && eqb (v % 32) (j % 32)) → T (eqb u i && eqb v j)
-    to t =
-        let h = and-yes (eqb (u * 8 + v / 32) (i * 8 + j / 32)) (eqb (v % 32) (j % 32)) t in
-        let word = eqb→eq (u * 8 + v / 32) (i * 8 + j / 32) (h .0) in
-        let digit = eqb→eq (v % 32) (j % 32) (h .1) in
-        yes-and (eqb u i) (eqb v j) (yes-eqb {a = u} {b = i} (omega arith)) (yes-eqb {a = v} {b = j} (omega arith))
+    both : (a b c d : ℕ) → a ≡ b → c ≡ d → T (eqb a b && eqb c d)
+    both a b c d e f = yes-and (eqb a b) (eqb c d) (yes-eqb e) (yes-eqb f)
 
-    from : T (eqb u i && eqb v j) → T (eqb (u * 8 + v / 32) (i * 8 + j / 32) && eqb (v % 32) (j % 32))
+    to : T (eqb (wordOf u v) (wordOf i j) && eqb (v % 32) (j % 32)) → T (eqb u i && eqb v j)
+    to t =
+        let h = and-yes (eqb (wordOf u v) (wordOf i j)) (eqb (v % 32) (j % 32)) t in
+        let word = eqb→eq (wordOf u v) (wordOf i j) (h .0) in
+        let digit = eqb→eq (v % 32) (j % 32) (h .1) in
+        both u i v j (omega arith) (omega arith)
+
+    from : T (eqb u i && eqb v j) → T (eqb (wordOf u v) (wordOf i j) && eqb (v % 32) (j % 32))
     from t =
         let h = and-yes (eqb u i) (eqb v j) t in
         let row = eqb→eq u i (h .0) in
         let column = eqb→eq v j (h .1) in
-        yes-and (eqb (u * 8 + v / 32) (i * 8 + j / 32)) (eqb (v % 32) (j % 32)) (yes-eqb {a = u * 8 + v / 32} {b = i * 8 + j / 32} (omega arith)) (yes-eqb {a = v % 32} {b = j % 32} (omega arith))
+        both (wordOf u v) (wordOf i j) (v % 32) (j % 32) (omega arith) (omega arith)
+
+-- the word with the one bit of the column j
+columnBit : ℕ → ℕ
+columnBit j = 1 * 2 ^ (j % 32) % 2 ^ 32
+
+column-bit : (j k : ℕ) → bit (columnBit j) k ≡ eqb k (j % 32)
+unfolding columnBit
+column-bit j k = ap (λ (x : ℕ). bit x k) (shl-exact 1 (j % 32) 32 (lit< tt) (omega arith)) ∙ bit-one (j % 32) k
 
 pub mark-added : (rows : List ℕ) (i j : ℕ) → HasRow rows i → j < 256
-    → MarkAdded rows (set rows (i * 8 + j / 32) (bitOr (getD rows (i * 8 + j / 32) 0) (1 * 2 ^ (j % 32) % 2 ^ 32))) i j
-unfolding marked
+    → MarkAdded rows (set rows (wordOf i j) (bitOr (getD rows (wordOf i j) 0) (1 * 2 ^ (j % 32) % 2 ^ 32))) i j
+unfolding marked columnBit
 mark-added rows i j h hj =
     record {
       size = simp length-set;
       marks = λ u v hv.
-          word-or rows (i * 8 + j / 32) (1 * 2 ^ (j % 32) % 2 ^ 32) (u * 8 + v / 32) (v % 32) (omega arith)
-          ∙ ap (λ (b : Bool). bit (getD rows (u * 8 + v / 32) 0) (v % 32) || (eqb (u * 8 + v / 32) (i * 8 + j / 32) && b)) (ap (λ (x : ℕ). bit x (v % 32)) (shl-exact 1 (j % 32) 32 (lit< tt) (omega arith)) ∙ bit-one (j % 32) (v % 32))
-          ∙ ap (λ (b : Bool). bit (getD rows (u * 8 + v / 32) 0) (v % 32) || b) (place u v i j hv hj);
+          word-or rows (wordOf i j) (columnBit j) (wordOf u v) (v % 32) (omega arith)
+          ∙ ap (λ (b : Bool). marked rows u v || (eqb (wordOf u v) (wordOf i j) && b)) (column-bit j (v % 32))
+          ∙ ap (λ (b : Bool). marked rows u v || b) (place u v i j hv hj);
     }
 
 -- k words of the row `from` have been united into the row `into`
@@ -69,16 +83,11 @@ pub record Joining (old new : List ℕ) (from into k : ℕ) : Type 0 where
   pub size : length new ≡ length old
   pub marks : (u v : ℕ) → v < 256 → marked new u v ≡ (marked old u v || (eqb u into && (ltb (v / 32) k && marked old from v)))
 
-no-more : (a e : Bool) → (a || (e && false)) ≡ a
-no-more true e = refl
-no-more false true = refl
-no-more false false = refl
-
 pub start : (rows : List ℕ) (from into : ℕ) → Joining rows rows from into 0
 start rows from into =
     record {
       size = refl;
-      marks = λ u v h. rw (le-ltb (v / 32) 0 (omega arith)) (sym (no-more (marked rows u v) (eqb u into)));
+      marks = λ u v h. rw (le-ltb (v / 32) 0 (omega arith)) (simp (and-false, or-false));
     }
 
 -- One word more, as a test: q says that it is the mark's word, l and m that the mark's word is among the first k, or k + 1.
@@ -98,8 +107,7 @@ unchanged : (old new : List ℕ) (from into k v : ℕ) → v < 256 → v / 32 �
 unfolding marked
 unchanged old new from into k v h e g =
     ap (λ (d : ℕ). bit (getD new (from * 8 + d) 0) (v % 32)) (sym e) ∙ g .marks from v h
-    ∙ ap (λ (b : Bool). marked old from v || (eqb from into && (b && marked old from v))) (le-ltb (v / 32) k (omega arith))
-    ∙ no-more (marked old from v) (eqb from into)
+    ∙ rw (le-ltb (v / 32) k (omega arith)) (simp (and-false, or-false))
 
 ltb-other : (d k : ℕ) → (d ≡ k → ⊥) → ltb d k ≡ ltb d (k + 1)
 ltb-other d k ne =
@@ -116,21 +124,23 @@ more old new from into k h hk g =
     record {
       size = simp length-set (g .size);
       marks = λ u v hv.
-          let word : T (eqb (u * 8 + v / 32) (into * 8 + k)) → u * 8 + v / 32 ≡ into * 8 + k = eqb→eq (u * 8 + v / 32) (into * 8 + k) in
-          word-or new (into * 8 + k) (getD new (from * 8 + k) 0) (u * 8 + v / 32) (v % 32) (omega (arith, g .size))
-          ∙ ap (λ (b : Bool). b || (eqb (u * 8 + v / 32) (into * 8 + k) && bit (getD new (from * 8 + k) 0) (v % 32))) (g .marks u v hv)
+          let here = eqb (wordOf u v) (into * 8 + k) in
+          let source = bit (getD new (from * 8 + k) 0) (v % 32) in
+          let word : T here → wordOf u v ≡ into * 8 + k = eqb→eq (wordOf u v) (into * 8 + k) in
+          word-or new (into * 8 + k) (getD new (from * 8 + k) 0) (wordOf u v) (v % 32) (omega (arith, g .size))
+          ∙ ap (λ (b : Bool). b || (here && source)) (g .marks u v hv)
           ∙ one-more
           (marked old u v)
           (eqb u into)
           (ltb (v / 32) k)
           (marked old from v)
-          (eqb (u * 8 + v / 32) (into * 8 + k))
-          (bit (getD new (from * 8 + k) 0) (v % 32))
+          here
+          source
           (ltb (v / 32) (k + 1))
           (λ q. yes-eqb {a = u} {b = into} (omega (arith, word q)))
           (λ q. yes-ltb {a = v / 32} {b = k + 1} (omega (arith, word q)))
           (λ q. unchanged old new from into k v hv (omega (arith, word q)) g)
-          (λ n e. ltb-other (v / 32) k (λ d. eqb-no {a = u * 8 + v / 32} {b = into * 8 + k} n (omega (arith, eqb→eq u into e))));
+          (λ n e. ltb-other (v / 32) k (λ d. eqb-no {a = wordOf u v} {b = into * 8 + k} n (omega (arith, eqb→eq u into e))));
     }
 
 pub done : (old new : List ℕ) (from into k : ℕ) → 8 ≤ k → Joining old new from into k → RowJoined old new from into

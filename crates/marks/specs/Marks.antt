@@ -12,9 +12,13 @@ use Rattle.finite.specs.Bounded.{any}
 unfoldable pub bit : ℕ → ℕ → Bool
 bit w k = eqb (w / 2 ^ k % 2) 1
 
+-- the word that holds mark (i, j)
+abbrev pub wordOf : ℕ → ℕ → ℕ
+wordOf i j = i * 8 + j / 32
+
 -- Mark (i, j) is bit j % 32 of word i * 8 + j / 32.
 unfoldable pub marked : List ℕ → ℕ → ℕ → Bool
-marked rows i j = bit (getD rows (i * 8 + j / 32) 0) (j % 32)
+marked rows i j = bit (getD rows (wordOf i j) 0) (j % 32)
 
 -- Row i lies within the words.
 abbrev pub HasRow : List ℕ → ℕ → Type 0
@@ -50,4 +54,4 @@ getD-zeros (suc n) (suc i) = getD-zeros n i
 -- words of 0 have no marks
 pub none-marked : (n u v : ℕ) → marked (replicate n 0) u v ≡ false
 unfolding marked
-none-marked n u v = ap (λ (w : ℕ). bit w (v % 32)) (getD-zeros n (u * 8 + v / 32)) ∙ bit-none (v % 32)
+none-marked n u v = ap (λ (w : ℕ). bit w (v % 32)) (getD-zeros n (wordOf u v)) ∙ bit-none (v % 32)

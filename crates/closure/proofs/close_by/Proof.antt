@@ -1,5 +1,5 @@
 -- `closure::close_by` meets its contract. The invariant: the rows below i are closed by k.
-use Prim.Native.Nat.{ℕ, _+_, _-_, _≤_}
+use Prim.Native.Nat.{ℕ, _-_, _≤_}
 use native.Mathlib.Omega.{arith}
 use mathlib.Core.List.{List}
 use mathlib.Core.Logic.{⊎-elim}
@@ -7,7 +7,7 @@ use mathlib.Core.Path.{sym, subst, _∙_}
 use borrow.Author.Needs.{needs}
 use Rattle.marks.specs.Marks.{RowJoined}
 use Rattle.closure.specs.Closed.{ClosedBy}
-use Rattle.closure.proofs.Rounds.{start, join-more, pass-more}
+use Rattle.closure.proofs.Rounds.{start, turn-join, turn-pass, more}
 use Rattle.closure.proofs.close_by.Statement.{statement}
 use Rattle.closure.proofs.close_by.Tie as tie
 
@@ -36,27 +36,20 @@ loop-again : tie.Need-loop-again Inv-loop μ-loop
 loop-again c =
     let a = c .before .before .before .before .before .before .args in
     let l = c .before .before .before .before .loop in
-    let test = c .before .is-marked .ensures in (
-      search needs,
-      ⊎-elim
-          (λ w.
-          join-more
-          (a .rows .now)
-          (l .rows)
-          (c .if1 .rows)
-          (a .k)
-          (l .i)
-          (omega arith)
-          (l .inv .1)
-          (sym test ∙ w .0 .taken)
-          (subst (λ (r : List ℕ). RowJoined (l .rows) r (a .k) (l .i)) (sym (w .5)) (w .2 .ensures)))
-          (λ w.
-          subst
-          (λ (r : List ℕ). ClosedBy (a .rows .now) r (a .k) (l .i + 1))
-          (sym (w .1))
-          (pass-more (a .rows .now) (l .rows) (a .k) (l .i) (omega arith) (l .inv .1) (sym test ∙ w .0 .left)))
-          (c .if1 .came),
-    )
+    let found = c .before .is-marked .ensures in
+    let turn =
+    ⊎-elim
+    (λ w.
+    turn-join
+    (l .rows)
+    (c .if1 .rows)
+    (a .k)
+    (l .i)
+    (sym found ∙ w .0 .taken)
+    (subst (λ (r : List ℕ). RowJoined (l .rows) r (a .k) (l .i)) (sym (w .5)) (w .2 .ensures)))
+    (λ w. turn-pass (l .rows) (c .if1 .rows) (a .k) (l .i) (sym found ∙ w .0 .left) (w .1))
+    (c .if1 .came)
+    in (search needs, more (a .rows .now) (l .rows) (c .if1 .rows) (a .k) (l .i) (omega arith) (l .inv .1) turn)
 
 same-length : tie.Need-same-length Inv-loop μ-loop
 same-length c = c .before .loop .inv .1 .size
