@@ -3,7 +3,7 @@ use Prim.Native.Nat.{ℕ, zero, suc, _<_}
 use native.Mathlib.Nat.{eq-or-lt-of-le, le-of-suc-le-suc, le-step, lt-suc-self, not-suc-le-zero}
 use mathlib.Core.Bool.{Bool, true, false, not, _&&_, _||_}
 use mathlib.Core.Logic.{_⊎_, inl, inr, ⊎-elim}
-use mathlib.Core.Path.{_≡_, subst, sym}
+use mathlib.Core.Path.{_≡_, refl, subst, sym}
 use lib.Dec.{T}
 use mir.Facts.{and-yes, yes-and, or-yes}
 
@@ -42,6 +42,13 @@ yes-or-right false y h = h
 pub decide : (x : Bool) → T x ⊎ T (not x)
 decide true = inl tt
 decide false = inr tt
+
+-- two tests that pass alike are equal
+pub same : (x y : Bool) → (T x → T y) → (T y → T x) → x ≡ y
+same true true h k = refl
+same true false h k = absurd (h tt)
+same false true h k = absurd (k tt)
+same false false h k = refl
 
 -- the numbers below suc n are n and those below n
 pub below-suc : {X : Type 0} (n i : ℕ) → i < suc n → (i < n → X) → (i ≡ n → X) → X

@@ -3,12 +3,12 @@ use Prim.Native.Nat.{ℕ, zero, suc, _≤_, _<_, max}
 use native.Mathlib.Nat.{le-of-suc-le-suc, le-step, not-suc-le-zero, max-eq-right}
 use native.Mathlib.Numerals.{lt-of-le-of-ne}
 use native.Mathlib.Omega.{arith}
-use mathlib.Core.Bool.{Bool, true, false, not, _&&_, _||_}
+use mathlib.Core.Bool.{Bool, false, not, _&&_, _||_}
 use mathlib.Core.Logic.{_⊎_, inl, inr, ⊎-elim}
 use mathlib.Core.Path.{_≡_, refl, sym, ap, subst, fun-ext, _∙_}
 use lib.Dec.{T, eqb, eqb-refl, eqb→eq, T-not, leb, leb→le, nleb→lt}
 use mir.Facts.{and-yes, yes-and, or-yes}
-use Rattle.finite.specs.Bounded.{decide, yes-or-left, yes-or-right}
+use Rattle.finite.specs.Bounded.{decide, same, yes-or-left, yes-or-right}
 
 -- a set of numbers, by the test of its members
 abbrev pub Set : Type 0
@@ -34,12 +34,6 @@ every (suc n) f = every n f && every n (λ D. f (insert n D))
 -- all members of D are below n
 pub record Within (n : ℕ) (D : Set) : Type 0 where
   pub below : (v : ℕ) → T (D v) → v < n
-
-same : (x y : Bool) → (T x → T y) → (T y → T x) → x ≡ y
-same true true h k = refl
-same true false h k = absurd (h tt)
-same false true h k = absurd (k tt)
-same false false h k = refl
 
 -- two sets with the same members are equal
 pub set-ext : (D E : Set) → ((v : ℕ) → T (D v) → T (E v)) → ((v : ℕ) → T (E v) → T (D v)) → D ≡ E

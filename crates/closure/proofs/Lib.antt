@@ -1,0 +1,2 @@
+mod Rounds
+mod Cycle

@@ -1,0 +1,57 @@
+-- Rows of marks for up to 256 events: 8 words of 32 bits to a row, the rows one after another in a list of words.
+use Prim.Native.Nat.{ℕ, zero, suc, _+_, _*_, _/_, _%_, _^_, _≤_, _<_}
+use native.Mathlib.Nat.{zero-div}
+use mathlib.Core.Bool.{Bool, false, _&&_, _||_}
+use mathlib.Core.List.{List}
+use mathlib.Core.Path.{_≡_, refl, ap, _∙_}
+use lib.Dec.{eqb}
+use lib.ListN.{length, getD, replicate}
+use Rattle.finite.specs.Bounded.{any}
+
+-- bit k of the word w
+unfoldable pub bit : ℕ → ℕ → Bool
+bit w k = eqb (w / 2 ^ k % 2) 1
+
+-- the word that holds mark (i, j)
+abbrev pub wordOf : ℕ → ℕ → ℕ
+wordOf i j = i * 8 + j / 32
+
+-- Mark (i, j) is bit j % 32 of word i * 8 + j / 32.
+unfoldable pub marked : List ℕ → ℕ → ℕ → Bool
+marked rows i j = bit (getD rows (wordOf i j) 0) (j % 32)
+
+-- Row i lies within the words.
+abbrev pub HasRow : List ℕ → ℕ → Type 0
+HasRow rows i = i * 8 + 8 ≤ length rows
+
+-- The first n rows lie within the words.
+abbrev pub HasRows : List ℕ → ℕ → Type 0
+HasRows rows n = n * 8 ≤ length rows
+
+-- Row i of a and row j of b have a mark in common.
+unfoldable pub meeting : List ℕ → ℕ → List ℕ → ℕ → Bool
+meeting a i b j = any 256 (λ w. marked a i w && marked b j w)
+
+-- The new marks are the old ones and (i, j).
+pub record MarkAdded (old new : List ℕ) (i j : ℕ) : Type 0 where
+  pub size : length new ≡ length old
+  pub marks : (u v : ℕ) → v < 256 → marked new u v ≡ (marked old u v || (eqb u i && eqb v j))
+
+-- The new row `into` is the union of the old rows `from` and `into`. Other rows are as before.
+pub record RowJoined (old new : List ℕ) (from into : ℕ) : Type 0 where
+  pub size : length new ≡ length old
+  pub marks : (u v : ℕ) → v < 256 → marked new u v ≡ (marked old u v || (eqb u into && marked old from v))
+
+pub bit-none : (k : ℕ) → bit 0 k ≡ false
+unfolding bit
+bit-none k = ap (λ (x : ℕ). eqb (x % 2) 1) (zero-div (2 ^ k))
+
+getD-zeros : (n i : ℕ) → _≡_ {A = ℕ} (getD (replicate n 0) i 0) 0
+getD-zeros zero i = refl
+getD-zeros (suc n) zero = refl
+getD-zeros (suc n) (suc i) = getD-zeros n i
+
+-- words of 0 have no marks
+pub none-marked : (n u v : ℕ) → marked (replicate n 0) u v ≡ false
+unfolding marked
+none-marked n u v = ap (λ (w : ℕ). bit w (v % 32)) (getD-zeros n (wordOf u v)) ∙ bit-none (v % 32)
