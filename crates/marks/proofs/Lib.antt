@@ -1,3 +1,4 @@
 mod Bits
 mod Rows
 mod Meeting
+mod Scan

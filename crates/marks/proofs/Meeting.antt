@@ -5,7 +5,6 @@ use native.Mathlib.Omega.{arith}
 use mathlib.Core.Bool.{Bool, not, _&&_, _||_}
 use mathlib.Core.List.{List}
 use mathlib.Core.Path.{_≡_, sym, ap, ap₂, subst, _∙_}
-use lib.Arith.{digits-div, digits-mod}
 use lib.Bits.{bitAnd, bitOr, and-lt, or-lt}
 use lib.Dec.{T, eqb, eqb→eq, lit<, not-T}
 use lib.ListN.{getD}
@@ -13,6 +12,7 @@ use mir.Facts.{eqb-no}
 use Rattle.finite.specs.Bounded.{any, any-yes, yes-any, same}
 use Rattle.marks.specs.Marks.{bit, bit-none, marked, meeting}
 use Rattle.marks.proofs.Bits.{bit-and, bit-or, some-bit}
+use Rattle.marks.proofs.Rows.{word-mark}
 
 -- word q of both rows has the bit t
 unfoldable pub inBoth : List ℕ → ℕ → List ℕ → ℕ → ℕ → ℕ → Bool
@@ -38,11 +38,6 @@ more a i b j both k ha hb g =
       bits = λ t. bit-or both (bitAnd x y) t ∙ ap₂ _||_ (g .bits t) (bit-and x y t) ∙ ap (λ (n : ℕ). any n (inBoth a i b j t)) (sym (add-one k));
     }
 
--- the mark at a word and a bit
-word : (rows : List ℕ) (i q t : ℕ) → t < 32 → bit (getD rows (i * 8 + q) 0) t ≡ marked rows i (q * 32 + t)
-unfolding marked
-word rows i q t h = rw (digits-div q {m = 32} h, digits-mod q {m = 32} h)
-
 pub done : (a : List ℕ) (i : ℕ) (b : List ℕ) (j both k : ℕ) → k ≡ 8 → Gathered a i b j both k → not (eqb both 0) ≡ meeting a i b j
 unfolding meeting marked inBoth
 done a i b j both k e g = same (not (eqb both 0)) (any 256 common) to from
@@ -54,7 +49,7 @@ done a i b j both k e g = same (not (eqb both 0)) (any 256 common) to from
     to h =
         let some = some-bit 32 both (g .fits) (eqb-no {a = both} {b = 0} h) in
         let at = any-yes k (inBoth a i b j (some .0)) (subst T (g .bits (some .0)) (some .2)) in
-        let both-words = ap₂ _&&_ (word a i (at .0) (some .0) (some .1)) (word b j (at .0) (some .0) (some .1)) in
+        let both-words = ap₂ _&&_ (word-mark a i (at .0) (some .0) (some .1)) (word-mark b j (at .0) (some .0) (some .1)) in
         yes-any 256 common (at .0 * 32 + some .0) (omega (arith, at .1, some .1)) (subst T both-words (at .2))
 
     from : T (any 256 common) → T (not (eqb both 0))

@@ -1,41 +1,71 @@
--- What storing a union at one word does to the marks: a mark is added, or a row joined word by word.
-use Prim.Native.Nat.{ℕ, _+_, _*_, _/_, _%_, _^_, _≤_, _<_}
+-- What storing one word does to the marks: a mark is added or removed, or a row joined word by word.
+use Prim.Native.Nat.{ℕ, _+_, _-_, _*_, _/_, _%_, _^_, _≤_, _<_}
 use native.Mathlib.Omega.{arith}
-use mathlib.Core.Bool.{Bool, true, false, not, _&&_, _||_, and-false, or-false, or-self}
+use mathlib.Core.Bool.{Bool, true, false, not, _&&_, _||_, and-true, and-false, or-false, or-self}
 use mathlib.Core.List.{List}
 use mathlib.Core.Logic.{⊎-elim}
 use mathlib.Core.Path.{_≡_, refl, sym, ap, subst, _∙_}
 use borrow.Author.Tests.{eq-eqb, ne-eqb, lt-ltb, le-ltb}
-use lib.Bits.{bitOr}
+use lib.Arith.{digits-div, digits-mod}
+use lib.Bits.{bitAnd, bitOr}
 use lib.Dec.{T, eqb, ltb, eqb→eq, ltb→lt, lit<}
 use lib.ListN.{length, getD, set, length-set}
 use lib.Pow.{shl-exact}
 use lib.Seq.{getD-set-same, getD-set-other}
 use mir.Facts.{and-yes, yes-and, yes-eqb, yes-ltb, eqb-no}
 use Rattle.finite.specs.Bounded.{decide, same}
-use Rattle.marks.specs.Marks.{bit, marked, wordOf, HasRow, MarkAdded, RowJoined}
-use Rattle.marks.proofs.Bits.{bit-or, bit-one}
+use Rattle.marks.specs.Marks.{bit, marked, wordOf, HasRow, MarkAdded, MarkRemoved, RowJoined}
+use Rattle.marks.proofs.Bits.{bit-and-not, bit-or, bit-one}
 
--- the bits after x is united into the word at p
-word-or : (rows : List ℕ) (p x q k : ℕ) → p < length rows
-    → bit (getD (set rows p (bitOr (getD rows p 0) x)) q 0) k ≡ (bit (getD rows q 0) k || (eqb q p && bit x k))
-word-or rows p x q k h = ⊎-elim at-it elsewhere (decide (eqb q p))
+-- The bits after the word at p is changed by f, where f keeps a bit that meets no x.
+word-change : (f : Bool → Bool → Bool) → ((b : Bool) → f b false ≡ b) → (rows : List ℕ) (p y q k : ℕ) (x : Bool) → p < length rows
+    → bit y k ≡ f (bit (getD rows p 0) k) x → bit (getD (set rows p y) q 0) k ≡ f (bit (getD rows q 0) k) (eqb q p && x)
+word-change f keeps rows p y q k x h e = ⊎-elim at-it elsewhere (decide (eqb q p))
   where
-    w : ℕ
-    w = bitOr (getD rows p 0) x
-
     After : ℕ → Type 0
-    After i = bit (getD (set rows p w) i 0) k ≡ (bit (getD rows i 0) k || (eqb i p && bit x k))
+    After i = bit (getD (set rows p y) i 0) k ≡ f (bit (getD rows i 0) k) (eqb i p && x)
 
     here : After p
-    here = rw (getD-set-same rows p w 0 h, eq-eqb p p refl) (bit-or (getD rows p 0) x k)
+    here = rw (getD-set-same rows p y 0 h, eq-eqb p p refl) e
 
     at-it : T (eqb q p) → After q
     at-it t = subst After (sym (eqb→eq q p t)) here
 
     elsewhere : T (not (eqb q p)) → After q
     elsewhere t =
-        rw (getD-set-other rows p q w 0 (eqb-no t), ne-eqb q p (eqb-no t)) (sym (or-false (bit (getD rows q 0) k)))
+        rw (getD-set-other rows p q y 0 (eqb-no t), ne-eqb q p (eqb-no t)) (sym (keeps (bit (getD rows q 0) k)))
+
+-- the bits after x is united into the word at p
+word-or : (rows : List ℕ) (p x q k : ℕ) → p < length rows
+    → bit (getD (set rows p (bitOr (getD rows p 0) x)) q 0) k ≡ (bit (getD rows q 0) k || (eqb q p && bit x k))
+word-or rows p x q k h =
+    word-change _||_ or-false rows p (bitOr (getD rows p 0) x) q k (bit x k) h (bit-or (getD rows p 0) x k)
+
+-- a, unless it is removed
+without : Bool → Bool → Bool
+without a x = a && not x
+
+-- the bits after those of x are removed from the word at p
+word-without : (rows : List ℕ) (p x q k : ℕ) → p < length rows → x < 2 ^ 32 → k < 32
+    → bit (getD (set rows p (bitAnd (getD rows p 0) ((2 ^ 32 - 1) - x))) q 0) k ≡ (bit (getD rows q 0) k && not (eqb q p && bit x k))
+unfolding without
+word-without rows p x q k h hx l =
+    word-change
+    without
+    and-true
+    rows
+    p
+    (bitAnd (getD rows p 0) ((2 ^ 32 - 1) - x))
+    q
+    k
+    (bit x k)
+    h
+    (bit-and-not (getD rows p 0) x k hx l)
+
+-- the mark at a word and a bit
+pub word-mark : (rows : List ℕ) (i q t : ℕ) → t < 32 → bit (getD rows (i * 8 + q) 0) t ≡ marked rows i (q * 32 + t)
+unfolding marked
+word-mark rows i q t h = rw (digits-div q {m = 32} h, digits-mod q {m = 32} h)
 
 -- the place of a mark tells its row and its column
 place : (u v i j : ℕ) → v < 256 → j < 256 → (eqb (wordOf u v) (wordOf i j) && eqb (v % 32) (j % 32)) ≡ (eqb u i && eqb v j)
@@ -76,6 +106,18 @@ mark-added rows i j h hj =
           word-or rows (wordOf i j) (columnBit j) (wordOf u v) (v % 32) (omega arith)
           ∙ ap (λ (b : Bool). marked rows u v || (eqb (wordOf u v) (wordOf i j) && b)) (column-bit j (v % 32))
           ∙ ap (λ (b : Bool). marked rows u v || b) (place u v i j hv hj);
+    }
+
+pub mark-removed : (rows : List ℕ) (i j : ℕ) → HasRow rows i → j < 256
+    → MarkRemoved rows (set rows (wordOf i j) (bitAnd (getD rows (wordOf i j) 0) ((2 ^ 32 - 1) - 1 * 2 ^ (j % 32) % 2 ^ 32))) i j
+unfolding marked columnBit
+mark-removed rows i j h hj =
+    record {
+      size = simp length-set;
+      marks = λ u v hv.
+          word-without rows (wordOf i j) (columnBit j) (wordOf u v) (v % 32) (omega arith) (omega arith) (omega arith)
+          ∙ ap (λ (b : Bool). marked rows u v && not (eqb (wordOf u v) (wordOf i j) && b)) (column-bit j (v % 32))
+          ∙ ap (λ (b : Bool). marked rows u v && not b) (place u v i j hv hj);
     }
 
 -- k words of the row `from` have been united into the row `into`

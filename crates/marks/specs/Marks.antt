@@ -1,16 +1,21 @@
 -- Rows of marks for up to 256 events: 8 words of 32 bits to a row, the rows one after another in a list of words.
 use Prim.Native.Nat.{ℕ, zero, suc, _+_, _*_, _/_, _%_, _^_, _≤_, _<_}
 use native.Mathlib.Nat.{zero-div}
-use mathlib.Core.Bool.{Bool, false, _&&_, _||_}
+use mathlib.Core.Bool.{Bool, false, not, _&&_, _||_}
 use mathlib.Core.List.{List}
 use mathlib.Core.Path.{_≡_, refl, ap, _∙_}
-use lib.Dec.{eqb}
+use lib.Dec.{T, eqb}
 use lib.ListN.{length, getD, replicate}
 use Rattle.finite.specs.Bounded.{any}
 
 -- bit k of the word w
 unfoldable pub bit : ℕ → ℕ → Bool
 bit w k = eqb (w / 2 ^ k % 2) 1
+
+-- r is the place of a bit of the 32-bit word w
+pub record SetBit (w r : ℕ) : Type 0 where
+  pub within : r < 32
+  pub set : T (bit w r)
 
 -- the word that holds mark (i, j)
 abbrev pub wordOf : ℕ → ℕ → ℕ
@@ -36,6 +41,11 @@ meeting a i b j = any 256 (λ w. marked a i w && marked b j w)
 pub record MarkAdded (old new : List ℕ) (i j : ℕ) : Type 0 where
   pub size : length new ≡ length old
   pub marks : (u v : ℕ) → v < 256 → marked new u v ≡ (marked old u v || (eqb u i && eqb v j))
+
+-- The new marks are the old ones without (i, j).
+pub record MarkRemoved (old new : List ℕ) (i j : ℕ) : Type 0 where
+  pub size : length new ≡ length old
+  pub marks : (u v : ℕ) → v < 256 → marked new u v ≡ (marked old u v && not (eqb u i && eqb v j))
 
 -- The new row `into` is the union of the old rows `from` and `into`. Other rows are as before.
 pub record RowJoined (old new : List ℕ) (from into : ℕ) : Type 0 where

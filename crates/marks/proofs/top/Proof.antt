@@ -1,0 +1,19 @@
+-- `marks::top` meets its contract: above the highest bit are the leading zeros.
+use native.Mathlib.Omega.{arith}
+use borrow.Author.Needs.{needs}
+use lib.Count.{leading-top}
+use Rattle.marks.proofs.Bits.{top-bit}
+use Rattle.marks.proofs.top.Statement.{statement}
+use Rattle.marks.proofs.top.Tie as tie
+
+sub-result : tie.Need-sub-result
+sub-result c = omega (arith, leading-top 32 (c .args .x) (c .pre) (omega arith) .1)
+
+cast-result : tie.Need-cast-result
+cast-result c = search needs
+
+returns : tie.Need-returns
+returns c = top-bit (c .args .x) (c .pre) (omega arith)
+
+pub top-spec : {M : Type 1} → statement M
+top-spec = tie.close (tie.spec sub-result cast-result returns)
