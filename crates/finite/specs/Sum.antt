@@ -101,7 +101,7 @@ sum-one (suc n) k f l =
       ap f e,
     ))
 
-on-zero : (b : Bool) → on b 0 ≡ 0
+pub on-zero : (b : Bool) → on b 0 ≡ 0
 on-zero true = refl
 on-zero false = refl
 
