@@ -3,7 +3,7 @@ use Prim.Native.Nat.{ℕ, _+_, _*_, _≤_, _<_}
 use native.Mathlib.Omega.{arith}
 use mathlib.Core.List.{List}
 use mathlib.Core.Logic.{_⊎_, ⊎-elim}
-use mathlib.Core.Path.{_≡_, sym, ap, subst, subst₂, _∙_}
+use mathlib.Core.Path.{_≡_, refl, sym, ap, subst, subst₂, _∙_}
 use lib.Dec.{T, eqb}
 use lib.ListN.{getD}
 use mir.Facts.{yes-eqb}
@@ -22,18 +22,37 @@ raised-exact amount fed amount′ fed′ u w k pos r e =
           (r .added a b hb t);
     }
 
--- The rows hold a tokenflow of the events below n: `gives` and `takes` are what each event gives and takes, and row w of `pred`
--- marks what is before w.
-pub record Flowing (n : ℕ) (pred gives takes : List ℕ) (r : Rows) : Type 0 where
+-- what u gives: what it has free and what it feeds to others
+unfoldable pub givenIn : ℕ → Rows → ℕ → ℕ
+givenIn n r u = getD (r .free) u 0 + sum n (λ w. fedBy (r .amount) (r .fed) u w)
+
+-- what w takes: what it lacks and what it gets from others
+unfoldable pub takenIn : ℕ → Rows → ℕ → ℕ
+takenIn n r w = getD (r .share) w 0 + sum n (λ u. fedBy (r .amount) (r .fed) u w)
+
+-- The rows hold a tokenflow of the events below n. Row w of `pred` marks what is before w.
+pub record Flowing (n : ℕ) (pred : List ℕ) (r : Rows) : Type 0 where
   pub events : n ≤ 256
   pub sized : Sized r
   pub exact : Exact (r .amount) (r .fed)
-  pub given : (u : ℕ) → u < n → getD (r .free) u 0 + sum n (λ w. fedBy (r .amount) (r .fed) u w) ≡ getD gives u 0
-  pub taken : (w : ℕ) → w < n → getD (r .share) w 0 + sum n (λ u. fedBy (r .amount) (r .fed) u w) ≡ getD takes w 0
   pub named : (u w : ℕ) → u < 256 → w < 256 → T (marked (r .fed) u w) → (u < n) × (w < n)
   pub ordered : (u w : ℕ) → u < 256 → w < 256 → T (marked (r .fed) u w) → T (marked pred w u)
-  pub gives-fit : (u : ℕ) → u < n → getD gives u 0 < 4294967296
-  pub takes-fit : (w : ℕ) → w < n → getD takes w 0 < 4294967296
+  pub gives-fit : (u : ℕ) → u < n → givenIn n r u < 4294967296
+  pub takes-fit : (w : ℕ) → w < n → takenIn n r w < 4294967296
+
+-- Every event gives and takes in the second rows what it does in the first.
+pub record Kept (n : ℕ) (r r′ : Rows) : Type 0 where
+  pub gives : (u : ℕ) → u < n → givenIn n r u ≡ givenIn n r′ u
+  pub takes : (w : ℕ) → w < n → takenIn n r w ≡ takenIn n r′ w
+
+pub kept-none : (n : ℕ) (r : Rows) → Kept n r r
+kept-none n r = record { gives = λ u l. refl; takes = λ w l. refl }
+
+pub kept-then : (n : ℕ) (r s t : Rows) → Kept n r s → Kept n s t → Kept n r t
+kept-then n r s t k m = record { gives = λ u l. k .gives u l ∙ m .gives u l; takes = λ w l. k .takes w l ∙ m .takes w l }
+
+pub kept-back : (n : ℕ) (r s : Rows) → Kept n r s → Kept n s r
+kept-back n r s k = record { gives = λ u l. sym (k .gives u l); takes = λ w l. sym (k .takes w l) }
 
 -- what all takers lack
 unfoldable pub lacking : ℕ → Rows → ℕ
@@ -78,51 +97,59 @@ module _ (n : ℕ) (r r′ : Rows) (u w k : ℕ) (few : n ≤ 256) (d : Drawn r 
         shares = omega (arith, s .shares, d .covered .size);
       }
 
-module _ (n : ℕ) (pred gives takes : List ℕ) (r r′ : Rows) (u w k : ℕ) (d : Drawn r r′ u w k) where
+module _ (n : ℕ) (r r′ : Rows) (u w k : ℕ) (d : Drawn r r′ u w k) where
+  -- tokens that are drawn are given and taken all the same
+  pub drawn-keeps : n ≤ 256 → u < n → w < n → Kept n r r′
+  unfolding givenIn takenIn
+  drawn-keeps few lu lw =
+      record {
+        gives = λ a l. omega (arith, row-more n r r′ u w k few d a l lw, d .spent .less a);
+        takes = λ b l. omega (arith, column-more n r r′ u w k few d b l lu, d .covered .less b);
+      }
+
   -- a draw from what is before keeps a tokenflow one
-  pub drawn-flows : Flowing n pred gives takes r → 0 < k → u < n → w < n → T (marked pred w u) → Flowing n pred gives takes r′
-  drawn-flows f pos lu lw before =
+  pub drawn-flows : (pred : List ℕ) → Flowing n pred r → 0 < k → u < n → w < n → T (marked pred w u) → Flowing n pred r′
+  drawn-flows pred f pos lu lw before =
+      let same = drawn-keeps (f .events) lu lw in
       record {
         events = f .events;
         sized = resized n r r′ u w k (f .events) d (f .sized);
         exact = raised-exact (r .amount) (r .fed) (r′ .amount) (r′ .fed) u w k pos (d .raised) (f .exact);
-        given = λ a l. omega (arith, f .given a l, row-more n r r′ u w k (f .events) d a l lw, d .spent .less a);
-        taken = λ b l. omega (arith, f .taken b l, column-more n r r′ u w k (f .events) d b l lu, d .covered .less b);
         named = λ a b la lb t. ⊎-elim (f .named a b la lb) (λ e. (omega (arith, e .0), omega (arith, e .1))) (d .raised .added a b lb t);
         ordered = λ a b la lb t. ⊎-elim (f .ordered a b la lb) (λ e. subst₂ (λ (x y : ℕ). T (marked pred x y)) (sym (e .1)) (sym (e .0)) before) (d .raised .added a b lb t);
-        gives-fit = f .gives-fit;
-        takes-fit = f .takes-fit;
+        gives-fit = λ a l. omega (arith, f .gives-fit a l, same .gives a l);
+        takes-fit = λ b l. omega (arith, f .takes-fit b l, same .takes b l);
       }
 
   -- and so does giving back what was drawn
-  pub given-back-flows : Flowing n pred gives takes r′ → u < n → w < n → Exact (r .amount) (r .fed) → Flowing n pred gives takes r
-  given-back-flows f lu lw e =
+  pub given-back-flows : (pred : List ℕ) → Flowing n pred r′ → u < n → w < n → Exact (r .amount) (r .fed) → Flowing n pred r
+  given-back-flows pred f lu lw e =
+      let same = drawn-keeps (f .events) lu lw in
       record {
         events = f .events;
         sized = sized-back n r r′ u w k (f .events) d (f .sized);
         exact = e;
-        given = λ a l. omega (arith, f .given a l, row-more n r r′ u w k (f .events) d a l lw, d .spent .less a);
-        taken = λ b l. omega (arith, f .taken b l, column-more n r r′ u w k (f .events) d b l lu, d .covered .less b);
         named = λ a b la lb t. f .named a b la lb (d .raised .kept a b lb t);
         ordered = λ a b la lb t. f .ordered a b la lb (d .raised .kept a b lb t);
-        gives-fit = f .gives-fit;
-        takes-fit = f .takes-fit;
+        gives-fit = λ a l. omega (arith, f .gives-fit a l, same .gives a l);
+        takes-fit = λ b l. omega (arith, f .takes-fit b l, same .takes b l);
       }
 
 -- what may be drawn and given back in a tokenflow
-module _ (n : ℕ) (pred gives takes : List ℕ) (r : Rows) (f : Flowing n pred gives takes r) (u w k : ℕ) (lu : u < n) (lw : w < n) where
+module _ (n : ℕ) (pred : List ℕ) (r : Rows) (f : Flowing n pred r) (u w k : ℕ) (lu : u < n) (lw : w < n) where
   pub may-draw : k ≤ getD (r .free) u 0 → k ≤ getD (r .share) w 0 → MayDraw r u w k
+  unfolding takenIn
   may-draw hf hs =
       record {
         giver = omega (arith, f .events);
         taker = omega (arith, f .events);
         free = hf;
         lacks = hs;
-        fits = omega (arith, f .taken w lw, f .takes-fit w lw, sum-term n (λ a. fedBy (r .amount) (r .fed) a w) u lu);
+        fits = omega (arith, f .takes-fit w lw, sum-term n (λ a. fedBy (r .amount) (r .fed) a w) u lu);
       }
 
   pub may-give-back : T (marked (r .fed) u w) → k ≤ getD (r .amount) (u * 256 + w) 0 → MayGiveBack r u w k
-  unfolding fedBy
+  unfolding fedBy givenIn takenIn
   may-give-back m h =
       let e = on-yes (marked (r .fed) u w) (getD (r .amount) (u * 256 + w) 0) m in
       record {
@@ -130,6 +157,6 @@ module _ (n : ℕ) (pred gives takes : List ℕ) (r : Rows) (f : Flowing n pred 
         taker = omega (arith, f .events);
         feeds = m;
         given = h;
-        free-fits = omega (arith, f .given u lu, f .gives-fit u lu, sum-term n (λ b. fedBy (r .amount) (r .fed) u b) w lw, e);
-        share-fits = omega (arith, f .taken w lw, f .takes-fit w lw, sum-term n (λ a. fedBy (r .amount) (r .fed) a w) u lu, e);
+        free-fits = omega (arith, f .gives-fit u lu, sum-term n (λ b. fedBy (r .amount) (r .fed) u b) w lw, e);
+        share-fits = omega (arith, f .takes-fit w lw, sum-term n (λ a. fedBy (r .amount) (r .fed) a w) u lu, e);
       }
