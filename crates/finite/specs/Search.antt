@@ -1,0 +1,29 @@
+-- A search below a bound: what a loop knows that tests each number in turn and stops at the first that passes.
+use Prim.Native.Nat.{ℕ, _+_, _<_}
+use native.Mathlib.Numerals.{add-one}
+use mathlib.Core.Bool.{Bool, true, false, not}
+use mathlib.Core.Path.{_≡_, refl, sym, subst}
+use denote.Floats.{passes, is-true}
+use lib.Dec.{T}
+use lib.Ieee.Bits.{is-false}
+use mir.Facts.{not-T}
+use Rattle.finite.specs.Bounded.{any, yes-any}
+
+pub fails : (b : Bool) → b ≡ false → T b → ⊥
+fails b e t = subst T e t
+
+pub search-start : (f : ℕ → Bool) → any 0 f ≡ false
+unfolding any
+search-start f = refl
+
+pub search-more : (f : ℕ → Bool) (i : ℕ) → any i f ≡ false → f i ≡ false → any (i + 1) f ≡ false
+unfolding any
+search-more f i none here = rw add-one (simp (none, here))
+
+pub search-found : (n : ℕ) (f : ℕ → Bool) (i : ℕ) → i < n → f i ≡ true → any n f ≡ true
+search-found n f i l here = is-true (any n f) (yes-any n f i l (passes (f i) here))
+
+-- a search that found nothing
+pub search-none : (n : ℕ) (f : ℕ → Bool) → any n f ≡ false → (i : ℕ) → i < n → f i ≡ false
+search-none n f none i l =
+    is-false (f i) (not-T (f i) (λ t. fails (any n f) none (yes-any n f i l t)))
