@@ -1,5 +1,6 @@
 -- A search below a bound: what a loop knows that tests each number in turn and stops at the first that passes.
-use Prim.Native.Nat.{ℕ, _+_, _<_}
+use Prim.Native.Nat.{ℕ, _+_, _<_, _≤_}
+use native.Mathlib.Omega.{arith}
 use native.Mathlib.Numerals.{add-one}
 use mathlib.Core.Bool.{Bool, true, false, not}
 use mathlib.Core.Path.{_≡_, refl, sym, subst}
@@ -20,8 +21,13 @@ pub search-more : (f : ℕ → Bool) (i : ℕ) → any i f ≡ false → f i ≡
 unfolding any
 search-more f i none here = rw add-one (simp (none, here))
 
-pub search-found : (n : ℕ) (f : ℕ → Bool) (i : ℕ) → i < n → f i ≡ true → any n f ≡ true
-search-found n f i l here = is-true (any n f) (yes-any n f i l (passes (f i) here))
+-- the bound is handed in as n and stands in the definition as m
+pub search-found : (n m : ℕ) (f : ℕ → Bool) (i : ℕ) → n ≡ m → i < n → f i ≡ true → true ≡ any m f
+search-found n m f i e l here =
+    sym (is-true (any m f) (yes-any m f i (omega arith) (passes (f i) here)))
+
+pub search-done : (n m : ℕ) (f : ℕ → Bool) (i : ℕ) → n ≡ m → i ≤ n → n ≤ i → any i f ≡ false → false ≡ any m f
+search-done n m f i e l k none = let same : m ≡ i = omega arith in sym (rw same none)
 
 -- a search that found nothing
 pub search-none : (n : ℕ) (f : ℕ → Bool) → any n f ≡ false → (i : ℕ) → i < n → f i ≡ false

@@ -3,7 +3,7 @@ use Prim.Native.Nat.{ℕ, _+_}
 use mathlib.Core.Bool.{Bool, true, _&&_}
 use mathlib.Core.List.{List, [], _∷_, _++_}
 use lib.Dec.{T, eqb}
-use lib.ListN.{set, replicate}
+use lib.ListN.{length, set, replicate}
 use Rattle.numbers.specs.Number.{number}
 use Rattle.finite.specs.Bounded.{any}
 use Rattle.plan.specs.Order.{before, beforeBy}
@@ -41,7 +41,8 @@ put at a b c d = set (set (set (set listing at a) (at + 1) b) (at + 2) c) (at + 
 -- what is worked out, and what it has to be
 pub examples : List (ℕ × ℕ)
 examples =
-    (faultOf listing, 0)
+    (length listing, 78)
+    ∷ (faultOf listing, 0)
     -- the empty sheet
     ∷ (faultOf [], 1)
     -- 65 places
