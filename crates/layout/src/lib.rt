@@ -1,10 +1,10 @@
-// The contents table of a sheet, read from its bytes, and the tests of faults 1 to 4. No test has a loop; 2 asks that 1 is
-// absent, 3 and 4 that 1 and 2 are.
+// The contents table of a sheet, read from its bytes, and faults 1 to 4. Nothing here has a loop. The test of 2 asks that 1 is
+// absent, those of 3 and 4 that 1 and 2 are.
 ghost use Prim.Native.Nat.{_<_, _≤_};
 ghost use mathlib.Core.Path.{_≡_};
 ghost use lib.ListN.{length};
 ghost use Rattle.sheet.specs.Table.{start, count};
-ghost use Rattle.sheet.specs.Faults.{tooShort, overLimit, misplaced, wrongEnd};
+ghost use Rattle.sheet.specs.Faults.{tooShort, overLimit, misplaced, wrongEnd, layoutFaults, firstFault};
 ghost use Rattle.sheet.specs.Laid.{Limited};
 use numbers::get32;
 
@@ -75,4 +75,23 @@ pub fn wrong_end(s: &[u8]) -> bool
     ensures { λ r. ⌜ r ≡ wrongEnd (now (s .entry)) ⌝ }
 {
     s.len() != entry_start(s, 3) + 4 * entry_count(s, 3)
+}
+
+// The first of faults 1 to 4, 0 for none.
+pub fn layout_fault(s: &[u8]) -> u32
+    ensures { λ r. ⌜ r ≡ firstFault layoutFaults (now (s .entry)) ⌝ }
+{
+    if too_short(s) {
+        return 1;
+    }
+    if over_limit(s) {
+        return 2;
+    }
+    if misplaced_body(s) {
+        return 3;
+    }
+    if wrong_end(s) {
+        return 4;
+    }
+    0
 }

@@ -2,7 +2,7 @@
 use Prim.Native.Nat.{ℕ, suc, _<_, _≤_}
 use native.Mathlib.Omega.{arith}
 use mathlib.Core.Bool.{Bool, true, false, cond, true≢false, _&&_, _||_}
-use mathlib.Core.List.{List, [], _∷_}
+use mathlib.Core.List.{List, [], _∷_, _++_}
 use mathlib.Core.Path.{_≡_, refl}
 use borrow.Author.Tests.{ltb-false, leb-false, eqb-false}
 use lib.Dec.{T, leb, ltb, eqb, ltb→lt}
@@ -12,7 +12,7 @@ use Rattle.plan.specs.Net.{Plan}
 use Rattle.plan.specs.Order.{Before, pair, chain, before, Sound}
 use Rattle.sheet.specs.Table.{placesOf, transitionsOf, eventsOf, pairsOf}
 use Rattle.sheet.specs.Items.{openingAt, takesAt, givesAt, labelAt, earlierAt, laterAt, planOf}
-use Rattle.sheet.specs.Faults.{tooShort, overLimit, misplaced, wrongEnd, overOpeningAt, overOpening, overWeightAt, overWeightIn, overWeight, noTransitionAt, noTransition, noEventAt, noEvent, selfPairAt, selfPair, repeated, samePair, repeatAt, cycleAt, cyclic, faults, firstFault, faultOf}
+use Rattle.sheet.specs.Faults.{tooShort, overLimit, misplaced, wrongEnd, overOpeningAt, overOpening, overWeightAt, overWeightIn, overWeight, noTransitionAt, noTransition, noEventAt, noEvent, selfPairAt, selfPair, repeated, samePair, repeatAt, cycleAt, cyclic, layoutFaults, contentFaults, faults, firstFault, faultOf}
 use Rattle.sheet.specs.Laid.{Limited, Laid, limited, laid}
 
 -- no fault of a list is there
@@ -83,7 +83,7 @@ no-repeat s none i j l m e d =
     (yes-and (eqb (earlierAt s i) (earlierAt s j)) (eqb (laterAt s i) (laterAt s j)) (yes-eqb e) (yes-eqb d))
 
 pub faultless : (s : List ℕ) → faultOf s ≡ 0 → Faultless s
-unfolding faultOf faults overOpening overOpeningAt noTransition noTransitionAt selfPair selfPairAt cyclic cycleAt
+unfolding faultOf faults layoutFaults contentFaults overOpening overOpeningAt noTransition noTransitionAt selfPair selfPairAt cyclic cycleAt
 faultless s e =
     let a = absent faults s (tt, (tt, (tt, (tt, (tt, (tt, (tt, (tt, (tt, (tt, (tt, tt))))))))))) e in
     let b = a .1 .1 .1 .1 in
@@ -113,3 +113,34 @@ sound s known test =
       later-named = known .later;
       acyclic = λ v b. fails (before (planOf s) v v) (known .acyclic v (starts-at (planOf s) (known .earlier) b)) (test v v b);
     }
+
+-- Faults 1 to 4 decide, or are absent and leave it to the rest.
+decided : (b : Bool) (k x z : ℕ) → (¬ (x ≡ 0) → z ≡ x) → ¬ (cond b k x ≡ 0) → cond b k z ≡ cond b k x
+decided true k x z h n = refl
+decided false k x z h n = h n
+
+first-decides : (fs gs : List (ℕ × (List ℕ → Bool))) (s : List ℕ) → ¬ (firstFault fs s ≡ 0) → firstFault (fs ++ gs) s ≡ firstFault fs s
+unfolding firstFault
+first-decides [] gs s n = absurd (n refl)
+first-decides (f ∷ fs) gs s n =
+    decided (f .1 s) (f .0) (firstFault fs s) (firstFault (fs ++ gs) s) (first-decides fs gs s) n
+
+left-over : (fs gs : List (ℕ × (List ℕ → Bool))) (s : List ℕ) → Absent fs s → firstFault (fs ++ gs) s ≡ firstFault gs s
+unfolding firstFault
+left-over [] gs s a = refl
+left-over (f ∷ fs) gs s a = simp (a .0, left-over fs gs s (a .1))
+
+pub layout-decides : (s : List ℕ) → ¬ (firstFault layoutFaults s ≡ 0) → faultOf s ≡ firstFault layoutFaults s
+unfolding faultOf faults
+layout-decides s n = first-decides layoutFaults contentFaults s n
+
+pub layout-laid : (s : List ℕ) → firstFault layoutFaults s ≡ 0 → Laid s
+unfolding layoutFaults
+layout-laid s e =
+    let a = absent layoutFaults s (tt, (tt, (tt, (tt, tt)))) e in
+    laid s (limited s (a .0) (a .1 .0)) (a .1 .1 .0) (a .1 .1 .1 .0)
+
+pub content-decides : (s : List ℕ) → firstFault layoutFaults s ≡ 0 → faultOf s ≡ firstFault contentFaults s
+unfolding faultOf faults layoutFaults
+content-decides s e =
+    left-over layoutFaults contentFaults s (absent layoutFaults s (tt, (tt, (tt, (tt, tt)))) e)

@@ -1,7 +1,7 @@
 -- The faults of a sheet. Document 01, "Faults of a call", 1 to 11, each as a test, and the order in which they are told.
 use Prim.Native.Nat.{ℕ}
 use mathlib.Core.Bool.{Bool, not, cond, _&&_, _||_}
-use mathlib.Core.List.{List, [], _∷_}
+use mathlib.Core.List.{List, [], _∷_, _++_}
 use lib.Dec.{leb, ltb, eqb}
 use lib.ListN.{length}
 use Rattle.finite.specs.Bounded.{any}
@@ -86,14 +86,14 @@ cycleAt s v = before (planOf s) v v
 unfoldable pub cyclic : List ℕ → Bool
 cyclic s = any (eventsOf s) (cycleAt s)
 
--- The faults with their numbers, in the order in which they are looked for.
-unfoldable pub faults : List (ℕ × (List ℕ → Bool))
-faults =
-    (1, tooShort)
-    ∷ (2, overLimit)
-    ∷ (3, misplaced)
-    ∷ (4, wrongEnd)
-    ∷ (5, overOpening)
+-- The faults with their numbers, in the order in which they are looked for: first where the bodies stand,
+unfoldable pub layoutFaults : List (ℕ × (List ℕ → Bool))
+layoutFaults = (1, tooShort) ∷ (2, overLimit) ∷ (3, misplaced) ∷ (4, wrongEnd) ∷ []
+
+-- and only once those are absent what stands in them.
+unfoldable pub contentFaults : List (ℕ × (List ℕ → Bool))
+contentFaults =
+    (5, overOpening)
     ∷ (6, overWeight)
     ∷ (7, noTransition)
     ∷ (8, noEvent)
@@ -102,10 +102,14 @@ faults =
     ∷ (11, cyclic)
     ∷ []
 
--- the number of the first fault that a sheet has, 0 if it has none
+unfoldable pub faults : List (ℕ × (List ℕ → Bool))
+faults = layoutFaults ++ contentFaults
+
+-- the number of the first fault of a list that a sheet has, 0 if it has none
 unfoldable pub firstFault : List (ℕ × (List ℕ → Bool)) → List ℕ → ℕ
 firstFault [] s = 0
 firstFault (f ∷ fs) s = cond (f .1 s) (f .0) (firstFault fs s)
 
+-- the fault of a sheet, 0 for none
 unfoldable pub faultOf : List ℕ → ℕ
 faultOf s = firstFault faults s

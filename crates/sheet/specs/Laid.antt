@@ -33,11 +33,15 @@ within : (s : List ℕ) → overLimit s ≡ false → (e : ℕ) → e < 4 → co
 unfolding overLimit overLimitAt
 within s none e l = ltb-false (limit e) (count s e) (search-none 4 (overLimitAt s) none e l)
 
+pub whole : (s : List ℕ) → tooShort s ≡ false → 32 ≤ length s
+unfolding tooShort
+whole s absent = ltb-false (length s) 32 absent
+
 pub limited : (s : List ℕ) → tooShort s ≡ false → overLimit s ≡ false → Limited s
-unfolding tooShort limit
-limited s whole none =
+unfolding limit
+limited s long none =
     record {
-      table = ltb-false (length s) 32 whole;
+      table = whole s long;
       places = within s none 0 (omega arith);
       transitions = within s none 1 (omega arith);
       events = within s none 2 (omega arith);

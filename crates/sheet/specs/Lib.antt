@@ -3,4 +3,5 @@ pub mod Items
 pub mod Faults
 pub mod Laid
 pub mod Faultless
+pub mod Chain
 pub mod Examples
