@@ -1,16 +1,16 @@
 -- The tests of the contents table, entry by entry: a wrong entry passes the test, and with three right ones the last decides.
 use Prim.Native.Nat.{ℕ, _+_, _*_, _<_, _≤_}
 use native.Mathlib.Omega.{arith}
-use mathlib.Core.Bool.{Bool, true, false, not}
+use mathlib.Core.Bool.{true, not}
 use mathlib.Core.List.{List}
-use mathlib.Core.Path.{_≡_, refl, sym, ap, ap₂, _∙_}
+use mathlib.Core.Path.{_≡_, refl, sym, ap, _∙_}
 use borrow.Author.Tests.{lt-ltb, le-ltb, ne-eqb, eq-eqb}
 use lib.Dec.{ltb, eqb}
 use lib.ListN.{length}
 use Rattle.finite.specs.Bounded.{any}
 use Rattle.finite.specs.Search.{search-found}
 use Rattle.numbers.specs.Number.{number}
-use Rattle.sheet.specs.Table.{start, count, limit, itemLength, item, bodyEnd, due, placesOf, transitionsOf, eventsOf, pairsOf}
+use Rattle.sheet.specs.Table.{start, count, limit, itemLength, item, bodyEnd, due}
 use Rattle.sheet.specs.Faults.{tooShort, overLimitAt, overLimit, misplacedAt, misplaced, wrongEnd}
 use Rattle.sheet.specs.Laid.{Limited, weights-most}
 

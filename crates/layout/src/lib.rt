@@ -25,14 +25,14 @@ pub fn entry_count(s: &[u8], e: usize) -> usize
 }
 
 // 1: fewer than 32 bytes.
-pub fn too_short(s: &[u8]) -> bool
+fn too_short(s: &[u8]) -> bool
     ensures { λ r. ⌜ r ≡ tooShort (now (s .entry)) ⌝ }
 {
     s.len() < 32
 }
 
 // 2: an item count above its limit.
-pub fn over_limit(s: &[u8]) -> bool
+fn over_limit(s: &[u8]) -> bool
     requires { ⌜ 32 ≤ length (now s) ⌝ }
     ensures { λ r. ⌜ r ≡ overLimit (now (s .entry)) ⌝ }
 {
@@ -49,7 +49,7 @@ pub fn over_limit(s: &[u8]) -> bool
 }
 
 // 3: a body's start isn't the end of what precedes it.
-pub fn misplaced_body(s: &[u8]) -> bool
+fn misplaced_body(s: &[u8]) -> bool
     requires { ⌜ Limited (now s) ⌝ }
     ensures { λ r. ⌜ r ≡ misplaced (now (s .entry)) ⌝ }
 {
@@ -70,7 +70,7 @@ pub fn misplaced_body(s: &[u8]) -> bool
 }
 
 // 4: the sheet doesn't end with its last body.
-pub fn wrong_end(s: &[u8]) -> bool
+fn wrong_end(s: &[u8]) -> bool
     requires { ⌜ Limited (now s) ⌝ }
     ensures { λ r. ⌜ r ≡ wrongEnd (now (s .entry)) ⌝ }
 {

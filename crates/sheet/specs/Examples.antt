@@ -74,13 +74,16 @@ examples =
     ∷ (faultOf (set (put 74 0 0 3 0) 72 2), 7)
     ∷ (faultOf (put 74 3 0 3 0), 8)
     ∷ (faultOf (desk 3 (0 ∷ 0 ∷ 1 ∷ 0 ∷ 1 ∷ 0 ∷ 0 ∷ 0 ∷ 0 ∷ 0 ∷ 1 ∷ 0 ∷ [])), 10)
-    -- limits taken: opening count 1,000,000; weight 1,000; 64 transitions; 64 places
+    -- limits taken: opening count 1,000,000; weight 1,000; 64 transitions; 64 places; 256 events
     ∷ (faultOf (put 32 64 66 15 0), 0)
     ∷ (faultOf (put 44 232 3 0 0), 0)
     ∷ (faultOf (table 32 0 32 64 32 0 32 0), 0)
     ∷ (faultOf (set (set (set (table 32 64 32 0 32 0 32 0) 9 1) 17 1) 25 1 ++ replicate 256 0), 0)
-    -- one transition more
+    ∷ (faultOf (set (set (table 32 0 32 1 32 0 32 0) 21 1) 25 2 ++ replicate 512 0), 0)
+    -- one more of each: 65 transitions, 257 events, 1,025 pairs
     ∷ (faultOf (table 32 0 32 65 32 0 32 0), 2)
+    ∷ (faultOf (set (table 32 0 32 0 32 1 32 0) 21 1), 2)
+    ∷ (faultOf (set (table 32 0 32 0 32 0 32 1) 29 4), 2)
     -- no items at all
     ∷ (faultOf (table 32 0 32 0 32 0 32 0), 0)
     -- what the listing's sheet says

@@ -1,7 +1,7 @@
 -- What is known of a sheet with no fault: its numbers are within their limits, its names name something, and its plan is sound.
-use Prim.Native.Nat.{ℕ, suc, _<_, _≤_}
+use Prim.Native.Nat.{ℕ, _<_, _≤_}
 use native.Mathlib.Omega.{arith}
-use mathlib.Core.Bool.{Bool, true, false, cond, true≢false, _&&_, _||_}
+use mathlib.Core.Bool.{Bool, true, false, cond, true≢false, _||_}
 use mathlib.Core.List.{List, [], _∷_, _++_}
 use mathlib.Core.Path.{_≡_, refl}
 use borrow.Author.Tests.{ltb-false, leb-false, eqb-false}
@@ -12,8 +12,8 @@ use Rattle.plan.specs.Net.{Plan}
 use Rattle.plan.specs.Order.{Before, pair, chain, before, Sound}
 use Rattle.sheet.specs.Table.{placesOf, transitionsOf, eventsOf, pairsOf}
 use Rattle.sheet.specs.Items.{openingAt, takesAt, givesAt, labelAt, earlierAt, laterAt, planOf}
-use Rattle.sheet.specs.Faults.{tooShort, overLimit, misplaced, wrongEnd, overOpeningAt, overOpening, overWeightAt, overWeightIn, overWeight, noTransitionAt, noTransition, noEventAt, noEvent, selfPairAt, selfPair, repeated, samePair, repeatAt, cycleAt, cyclic, layoutFaults, contentFaults, faults, firstFault, faultOf}
-use Rattle.sheet.specs.Laid.{Limited, Laid, limited, laid}
+use Rattle.sheet.specs.Faults.{overOpeningAt, overOpening, overWeightAt, overWeightIn, overWeight, noTransitionAt, noTransition, noEventAt, noEvent, selfPairAt, selfPair, repeated, samePair, repeatAt, cycleAt, cyclic, layoutFaults, contentFaults, faults, firstFault, faultOf}
+use Rattle.sheet.specs.Laid.{Laid, limited, laid}
 
 -- no fault of a list is there
 abbrev Absent : List (ℕ × (List ℕ → Bool)) → List ℕ → Type 0

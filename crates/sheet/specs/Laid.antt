@@ -1,12 +1,12 @@
 -- What is known of a sheet once faults 1 to 4 are absent: its counts are within the limits and its bodies stand where they should.
-use Prim.Native.Nat.{ℕ, zero, suc, _+_, _*_, _<_, _≤_}
+use Prim.Native.Nat.{ℕ, suc, _+_, _*_, _<_, _≤_}
 use native.Mathlib.Omega.{arith}
 use native.Mathlib.Nat.{mul-le-mul, mul-le-mul-left, mul-suc}
-use mathlib.Core.Bool.{Bool, false}
+use mathlib.Core.Bool.{false}
 use mathlib.Core.List.{List}
 use mathlib.Core.Path.{_≡_}
 use borrow.Author.Tests.{ltb-false, eqb-true, not-false}
-use lib.Dec.{ltb, eqb}
+use lib.Dec.{eqb}
 use lib.ListN.{length}
 use Rattle.finite.specs.Search.{search-none}
 use Rattle.sheet.specs.Table.{start, count, limit, itemLength, item, bodyEnd, due, placesOf, transitionsOf, eventsOf, pairsOf}

@@ -1,5 +1,4 @@
 -- What stands at the position is the item.
-use Prim.Native.Nat.{_+_, _*_}
 use mathlib.Core.Path.{_∙_}
 use borrow.Author.Needs.{needs}
 use native.Mathlib.Omega.{arith}
