@@ -1,0 +1,35 @@
+-- A search below a bound: what a loop knows that tests each number in turn and stops at the first that passes.
+use Prim.Native.Nat.{ℕ, _+_, _<_, _≤_}
+use native.Mathlib.Omega.{arith}
+use native.Mathlib.Numerals.{add-one}
+use mathlib.Core.Bool.{Bool, true, false}
+use mathlib.Core.Path.{_≡_, refl, sym, subst}
+use denote.Floats.{passes, is-true}
+use lib.Dec.{T}
+use lib.Ieee.Bits.{is-false}
+use mir.Facts.{not-T}
+use Rattle.finite.specs.Bounded.{any, yes-any}
+
+pub fails : (b : Bool) → b ≡ false → T b → ⊥
+fails b e t = subst T e t
+
+pub search-start : (f : ℕ → Bool) → any 0 f ≡ false
+unfolding any
+search-start f = refl
+
+pub search-more : (f : ℕ → Bool) (i : ℕ) → any i f ≡ false → f i ≡ false → any (i + 1) f ≡ false
+unfolding any
+search-more f i none here = rw add-one (simp (none, here))
+
+-- the bound is handed in as n and stands in the definition as m
+pub search-found : (n m : ℕ) (f : ℕ → Bool) (i : ℕ) → n ≡ m → i < n → f i ≡ true → true ≡ any m f
+search-found n m f i e l here =
+    sym (is-true (any m f) (yes-any m f i (omega arith) (passes (f i) here)))
+
+pub search-done : (n m : ℕ) (f : ℕ → Bool) (i : ℕ) → n ≡ m → i ≤ n → n ≤ i → any i f ≡ false → false ≡ any m f
+search-done n m f i e l k none = let same : m ≡ i = omega arith in sym (rw same none)
+
+-- a search that found nothing
+pub search-none : (n : ℕ) (f : ℕ → Bool) → any n f ≡ false → (i : ℕ) → i < n → f i ≡ false
+search-none n f none i l =
+    is-false (f i) (not-T (f i) (λ t. fails (any n f) none (yes-any n f i l t)))

@@ -1,0 +1,11 @@
+-- The test is the definition.
+use denote.Ref.{now}
+use Rattle.layout.proofs.Table.{short-is}
+use Rattle.layout.proofs.too_short.Statement.{statement}
+use Rattle.layout.proofs.too_short.Tie as tie
+
+returns : tie.Need-returns
+returns c = short-is (now (c .args .s))
+
+pub too-short-spec : {M : Type 1} → statement M
+too-short-spec = tie.close (tie.spec returns)

@@ -1,0 +1,47 @@
+-- The table of contents of a sheet. Document 01, "The sheet": four entries of 8 bytes, each a start and an item count.
+use Prim.Native.Nat.{ℕ, zero, suc, _+_, _*_}
+use mathlib.Core.List.{List, [], _∷_}
+use lib.ListN.{getD}
+use Rattle.numbers.specs.Number.{number}
+
+-- the start of entry e's body (4 bytes, from the sheet's beginning)
+unfoldable pub start : List ℕ → ℕ → ℕ
+start s e = number 4 s (8 * e)
+
+-- the item count of entry e (4 bytes)
+unfoldable pub count : List ℕ → ℕ → ℕ
+count s e = number 4 s (8 * e + 4)
+
+-- the four entries
+abbrev pub placesOf : List ℕ → ℕ
+placesOf s = count s 0
+
+abbrev pub transitionsOf : List ℕ → ℕ
+transitionsOf s = count s 1
+
+abbrev pub eventsOf : List ℕ → ℕ
+eventsOf s = count s 2
+
+abbrev pub pairsOf : List ℕ → ℕ
+pairsOf s = count s 3
+
+-- most items: places, transitions, events, pairs
+unfoldable pub limit : ℕ → ℕ
+limit e = getD (64 ∷ 64 ∷ 256 ∷ 1024 ∷ []) e 0
+
+-- the bytes of one item: an opening count; takes and gives for each place; a transition number; two event numbers
+unfoldable pub itemLength : List ℕ → ℕ → ℕ
+itemLength s e = getD (4 ∷ 4 * placesOf s ∷ 2 ∷ 4 ∷ []) e 0
+
+-- where item i of entry e stands
+unfoldable pub item : List ℕ → ℕ → ℕ → ℕ
+item s e i = start s e + itemLength s e * i
+
+-- where the body of entry e ends
+unfoldable pub bodyEnd : List ℕ → ℕ → ℕ
+bodyEnd s e = item s e (count s e)
+
+-- Bodies follow in the same order, without gaps; the first starts at 32.
+unfoldable pub due : List ℕ → ℕ → ℕ
+due s zero = 32
+due s (suc e) = bodyEnd s e
