@@ -1,11 +1,8 @@
+-- `tokenflow::give_back` meets its contract.
 use native.Mathlib.Omega.{arith}
 use borrow.Author.Needs.{needs}
 use Rattle.tokenflow.proofs.give_back.Statement.{statement}
 use Rattle.tokenflow.proofs.give_back.Tie as tie
-use Rattle.tokenflow.proofs.give_back.Reads as reads
-use Rattle.tokenflow.proofs.give_back.Lts as lts
-use Rattle.tokenflow.proofs.lower.Reads as lower-reads
-use Rattle.tokenflow.proofs.refund.Reads as refund-reads
 
 lower-requires : tie.Need-lower-requires
 lower-requires c κs =

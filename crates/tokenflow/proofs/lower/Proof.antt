@@ -1,3 +1,4 @@
+-- `tokenflow::lower` meets its contract.
 use native.Mathlib.Omega.{arith}
 use native.Mathlib.Numerals.{lt-of-le-of-ne}
 use mathlib.Core.Path.{sym}
@@ -5,9 +6,6 @@ use borrow.Author.Needs.{needs}
 use Rattle.tokenflow.proofs.Amounts.{lowered-gone, lowered-gone-exact, lowered-known, lowered-known-exact}
 use Rattle.tokenflow.proofs.lower.Statement.{statement}
 use Rattle.tokenflow.proofs.lower.Tie as tie
-use Rattle.tokenflow.proofs.lower.Reads as reads
-use Rattle.tokenflow.proofs.lower.Lts as lts
-use Rattle.marks.proofs.unmark.Reads as unmark-reads
 
 mul-at : tie.Need-mul-at
 mul-at c = search needs

@@ -1,3 +1,4 @@
+-- `tokenflow::raise` meets its contract.
 use Prim.Native.Nat.{ℕ, _+_, _*_}
 use native.Mathlib.Omega.{arith}
 use mathlib.Core.Bool.{Bool, true, false, not}
@@ -11,10 +12,6 @@ use Rattle.tokenflow.proofs.Amounts.{raised-known, raised-new}
 use borrow.Author.Needs.{needs}
 use Rattle.tokenflow.proofs.raise.Statement.{statement}
 use Rattle.tokenflow.proofs.raise.Tie as tie
-use Rattle.tokenflow.proofs.raise.Reads as reads
-use Rattle.tokenflow.proofs.raise.Lts as lts
-use Rattle.marks.proofs.is_marked.Reads as is-marked-reads
-use Rattle.marks.proofs.mark.Reads as mark-reads
 
 mul-at : tie.Need-mul-at
 mul-at c = search needs

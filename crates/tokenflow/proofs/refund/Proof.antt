@@ -1,10 +1,9 @@
+-- `tokenflow::refund` meets its contract.
 use native.Mathlib.Omega.{arith}
 use Rattle.tokenflow.proofs.Amounts.{raised-back}
 use borrow.Author.Needs.{needs}
 use Rattle.tokenflow.proofs.refund.Statement.{statement}
 use Rattle.tokenflow.proofs.refund.Tie as tie
-use Rattle.tokenflow.proofs.refund.Reads as reads
-use Rattle.tokenflow.proofs.refund.Lts as lts
 
 mul-row : tie.Need-mul-row
 mul-row c = search needs

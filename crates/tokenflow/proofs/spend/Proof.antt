@@ -1,10 +1,9 @@
+-- `tokenflow::spend` meets its contract.
 use native.Mathlib.Omega.{arith}
 use Rattle.tokenflow.proofs.Amounts.{lowered}
 use borrow.Author.Needs.{needs}
 use Rattle.tokenflow.proofs.spend.Statement.{statement}
 use Rattle.tokenflow.proofs.spend.Tie as tie
-use Rattle.tokenflow.proofs.spend.Reads as reads
-use Rattle.tokenflow.proofs.spend.Lts as lts
 
 mul-row : tie.Need-mul-row
 mul-row c = search needs
