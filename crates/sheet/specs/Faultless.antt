@@ -63,7 +63,7 @@ weights s none t p l m =
     in
     (ltb-false 1000 (takesAt s t p) (both .0), ltb-false 1000 (givesAt s t p) (both .1))
 
-ends : (s : List ℕ) → noEvent s ≡ false → (i : ℕ) → i < pairsOf s → (earlierAt s i < eventsOf s) × (laterAt s i < eventsOf s)
+pub ends : (s : List ℕ) → noEvent s ≡ false → (i : ℕ) → i < pairsOf s → (earlierAt s i < eventsOf s) × (laterAt s i < eventsOf s)
 unfolding noEvent noEventAt
 ends s none i l =
     let both =
