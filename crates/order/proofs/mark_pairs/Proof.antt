@@ -1,3 +1,4 @@
+-- Pair after pair: those so far are marked, and none of them repeats an earlier one.
 use Prim.Native.Nat.{ℕ, _<_, _≤_, _-_}
 use mathlib.Core.Bool.{false, true≢false}
 use mathlib.Core.Path.{_≡_, sym, subst, _∙_}
@@ -13,12 +14,6 @@ use borrow.Author.Needs.{needs}
 use native.Mathlib.Omega.{arith}
 use Rattle.order.proofs.mark_pairs.Statement.{statement}
 use Rattle.order.proofs.mark_pairs.Tie as tie
-use Rattle.order.proofs.mark_pairs.Reads as reads
-use Rattle.order.proofs.mark_pairs.Lts as lts
-use Rattle.lookup.proofs.earlier.Reads as earlier-reads
-use Rattle.lookup.proofs.later.Reads as later-reads
-use Rattle.marks.proofs.is_marked.Reads as is-marked-reads
-use Rattle.marks.proofs.mark.Reads as mark-reads
 
 abbrev Inv-loop : tie.InvT-loop
 Inv-loop s places transitions events pairs succ₀ pred₀ i₀ succ pred i = (i ≤ pairs) × (any i (repeatAt s) ≡ false) × PairsMarked (planOf s) i succ pred
@@ -26,15 +21,12 @@ Inv-loop s places transitions events pairs succ₀ pred₀ i₀ succ pred i = (i
 abbrev μ-loop : tie.MeasureT-loop
 μ-loop s places transitions events pairs succ₀ pred₀ i₀ succ pred i = pairs - i
 
--- src/lib.rt:26:5
 loop-holds : tie.Need-loop-holds Inv-loop μ-loop
 loop-holds c = (search needs, search-start _, start _ _ _ (c .before .before .before .pre .1 .1 .1 .0) (c .before .before .before .pre .1 .1 .1 .1))
 
--- src/lib.rt:27:13
 earlier-requires : tie.Need-earlier-requires Inv-loop μ-loop
 earlier-requires c κs = search needs
 
--- src/lib.rt:28:13
 later-requires : tie.Need-later-requires Inv-loop μ-loop
 later-requires c κs = search needs
 
@@ -52,36 +44,28 @@ repeats c =
 is-marked-requires : tie.Need-is-marked-requires Inv-loop μ-loop
 is-marked-requires c κs = let l = within (c .before) in omega (arith, l)
 
--- src/lib.rt:30:13
 same-length : tie.Need-same-length Inv-loop μ-loop
 same-length c = c .before .before .before .before .before .before .loop .inv .2 .succ-size ∙ sym (blank-size _ (c .before .before .before .before .before .before .before .before .before .before .pre .1 .1 .1 .0))
 
--- src/lib.rt:30:13
 same-length-2 : tie.Need-same-length-2 Inv-loop μ-loop
 same-length-2 c = c .before .before .before .before .before .before .loop .inv .2 .pred-size ∙ sym (blank-size _ (c .before .before .before .before .before .before .before .before .before .before .pre .1 .1 .1 .1))
 
--- src/lib.rt:30:13
 returns : tie.Need-returns Inv-loop μ-loop
 unfolding repeated
 returns c = (search-found _ _ _ _ (c .before .before .before .before .before .before .before .before .before .before .pre .1 .0 .3) (c .before .before .before .before .before .loop-test .taken) (sym (repeats (c .before)) ∙ c .if1 .taken), λ e. absurd (true≢false e))
 
--- src/lib.rt:32:9
 mark-requires : tie.Need-mark-requires Inv-loop μ-loop
 mark-requires c κs = let l = within (c .before .before .before .before) in omega (arith, l)
 
--- src/lib.rt:33:9
 mark-requires-2 : tie.Need-mark-requires-2 Inv-loop μ-loop
 mark-requires-2 c κs = let l = within (c .before .before .before .before .before .before .before .before) in omega (arith, l)
 
--- src/lib.rt:26:9
 add-i : tie.Need-add-i Inv-loop μ-loop
 add-i c = search needs
 
--- src/lib.rt:26:5
 loop-less : tie.Need-loop-less Inv-loop μ-loop
 loop-less c = search needs
 
--- src/lib.rt:26:5
 loop-again : tie.Need-loop-again Inv-loop μ-loop
 loop-again c = let now = c .before .before .before .before .before .before .before .before .before .before .before .before .before .before .loop in
     let a = c .before .before .before .before .before .before .before .before .before .before .before .before .earlier in
@@ -91,15 +75,12 @@ loop-again c = let now = c .before .before .before .before .before .before .befo
       more _ _ _ _ _ _ (now .inv .2) _ _ (a .ensures) (b .ensures) (c .before .before .before .before .before .before .mark .ensures) (c .before .before .mark2 .ensures),
     )
 
--- src/lib.rt:18:1
 same-length-3 : tie.Need-same-length-3 Inv-loop μ-loop
 same-length-3 c = c .before .loop .inv .2 .succ-size ∙ sym (blank-size _ (c .before .before .before .before .before .pre .1 .1 .1 .0))
 
--- src/lib.rt:18:1
 same-length-4 : tie.Need-same-length-4 Inv-loop μ-loop
 same-length-4 c = c .before .loop .inv .2 .pred-size ∙ sym (blank-size _ (c .before .before .before .before .before .pre .1 .1 .1 .1))
 
--- src/lib.rt:18:1
 returns-2 : tie.Need-returns-2 Inv-loop μ-loop
 unfolding repeated
 returns-2 c = (

@@ -1,3 +1,4 @@
+-- The repeats first, then the cycles in the closed rows.
 use native.Mathlib.Omega.{arith}
 use Prim.Native.Nat.{ℕ}
 use mathlib.Core.Path.{_≡_, refl, _∙_}
@@ -13,25 +14,16 @@ use Rattle.order.proofs.Cycles.{cycle-found, ordered}
 use borrow.Author.Needs.{needs}
 use Rattle.order.proofs.order_fault.Statement.{statement}
 use Rattle.order.proofs.order_fault.Tie as tie
-use Rattle.order.proofs.order_fault.Reads as reads
-use Rattle.order.proofs.order_fault.Lts as lts
-use Rattle.closure.proofs.close.Reads as close-reads
-use Rattle.closure.proofs.has_cycle.Reads as has-cycle-reads
-use Rattle.order.proofs.mark_pairs.Reads as mark-pairs-reads
 
--- src/lib.rt:47:8
 mark-pairs-requires : tie.Need-mark-pairs-requires
 mark-pairs-requires c κs = search needs
 
--- src/lib.rt:48:9
 same-length : tie.Need-same-length
 same-length c = search needs
 
--- src/lib.rt:48:9
 same-length-2 : tie.Need-same-length-2
 same-length-2 c = search needs
 
--- src/lib.rt:48:9
 returns : tie.Need-returns
 unfolding contentFaults
 returns c = (told-here _ _ _ _ (c .before .before .before .before .before .mark-pairs .ensures .0) (c .if1 .taken), λ e. absurd (eqb-false 10 0 refl e))
@@ -47,40 +39,31 @@ past c k e = told-later _ _ _ _ (c .before .before .before .before .before .mark
 cycles : (c : tie.After-has-cycle) → c .has-cycle .result ≡ cyclic (now (c .before .before .before .before .before .before .before .before .before .before .before .before .before .before .before .before .before .args .s))
 cycles c = c .has-cycle .ensures ∙ cycle-found _ (c .before .before .before .before .before .before .before .before .before .before .before .before .before .before .before .before .before .pre .0) (c .before .before .before .before .before .before .before .before .before .before .before .before .before .before .before .before .before .pre .1 .1 .0) _ (c .before .before .before .before .before .before .before .before .before .before .before .before .before .before .before .before .before .pre .1 .0 .2) _ _ _ (marks (c .before .before .before .before .before .before)) (c .before .before .before .before .close .ensures)
 
--- src/lib.rt:50:5
 close-requires : tie.Need-close-requires
 close-requires c κs = let few = c .before .before .before .before .before .before .before .before .before .before .before .before .pre .0 .limited .events in omega (arith, few, marks (c .before) .succ-size)
 
--- src/lib.rt:51:8
 has-cycle-requires : tie.Need-has-cycle-requires
 has-cycle-requires c κs = let few = c .before .before .before .before .before .before .before .before .before .before .before .before .before .before .before .before .pre .0 .limited .events in omega (arith, few, c .before .before .before .close .ensures .size, marks (c .before .before .before .before .before) .succ-size)
 
--- src/lib.rt:52:9
 same-length-3 : tie.Need-same-length-3
 same-length-3 c = search needs
 
--- src/lib.rt:52:9
 same-length-4 : tie.Need-same-length-4
 same-length-4 c = search needs
 
--- src/lib.rt:52:9
 returns-2 : tie.Need-returns-2
 unfolding contentFaults
 returns-2 c = (past (c .before .before .before .before .before .before .before) _ (told-here _ _ _ _ (cycles (c .before)) (c .if2 .taken)), λ e. absurd (eqb-false 11 0 refl e))
 
--- src/lib.rt:54:5
 close-requires-2 : tie.Need-close-requires-2
 close-requires-2 c κs = let few = c .before .before .before .before .before .before .before .before .before .before .before .before .before .before .before .before .before .before .before .pre .0 .limited .events in omega (arith, few, marks (c .before .before .before .before .before .before .before .before) .pred-size)
 
--- src/lib.rt:39:1
 same-length-5 : tie.Need-same-length-5
 same-length-5 c = search needs
 
--- src/lib.rt:39:1
 same-length-6 : tie.Need-same-length-6
 same-length-6 c = search needs
 
--- src/lib.rt:39:1
 returns-3 : tie.Need-returns-3
 unfolding contentFaults
 returns-3 c = (past (c .before .before .before .before .before .before .before .before .before .before .before) _ (told-later _ _ _ _ (cycles (c .before .before .before .before .before)) (c .before .before .before .before .if2 .left) _ (told-none _)), λ e. ordered _ (c .before .before .before .before .before .before .before .before .before .before .before .before .before .before .before .before .before .before .before .before .before .before .pre .0) (c .before .before .before .before .before .before .before .before .before .before .before .before .before .before .before .before .before .before .before .before .before .before .pre .1 .1 .0) _ (c .before .before .before .before .before .before .before .before .before .before .before .before .before .before .before .before .before .before .before .before .before .before .pre .1 .0 .2) _ _ _ (marks (c .before .before .before .before .before .before .before .before .before .before .before)) (c .before .before .before .before .before .before .before .before .before .close .ensures) _ (c .before .before .close2 .ensures))
