@@ -1,4 +1,4 @@
--- What is known of a sheet with no fault: its numbers are within their limits, its names name something, and its plan is sound.
+-- What is known of a sheet with no fault: its numbers are within their limits, its names name something, and its plan is sound and labelled.
 use Prim.Native.Nat.{ℕ, _<_, _≤_}
 use native.Mathlib.Omega.{arith}
 use mathlib.Core.Bool.{Bool, true, false, cond, true≢false, _||_}
@@ -8,10 +8,11 @@ use borrow.Author.Tests.{ltb-false, leb-false, eqb-false}
 use lib.Dec.{T, leb, ltb, eqb, ltb→lt}
 use mir.Facts.{yes-and, yes-eqb}
 use Rattle.finite.specs.Search.{search-none, fails}
-use Rattle.plan.specs.Net.{Plan}
+use Rattle.plan.specs.Net.{Plan, Labelled}
 use Rattle.plan.specs.Order.{Before, pair, chain, before, Sound}
+use Rattle.plan.specs.Closure.{before-test}
 use Rattle.sheet.specs.Table.{placesOf, transitionsOf, eventsOf, pairsOf}
-use Rattle.sheet.specs.Items.{openingAt, takesAt, givesAt, labelAt, earlierAt, laterAt, planOf}
+use Rattle.sheet.specs.Items.{openingAt, takesAt, givesAt, labelAt, earlierAt, laterAt, netOf, planOf}
 use Rattle.sheet.specs.Faults.{overOpeningAt, overOpening, overWeightAt, overWeightIn, overWeight, noTransitionAt, noTransition, noEventAt, noEvent, selfPairAt, selfPair, repeated, samePair, repeatAt, cycleAt, cyclic, layoutFaults, contentFaults, faults, firstFault, faultOf}
 use Rattle.sheet.specs.Laid.{Laid, limited, laid}
 
@@ -63,7 +64,7 @@ weights s none t p l m =
     in
     (ltb-false 1000 (takesAt s t p) (both .0), ltb-false 1000 (givesAt s t p) (both .1))
 
-ends : (s : List ℕ) → noEvent s ≡ false → (i : ℕ) → i < pairsOf s → (earlierAt s i < eventsOf s) × (laterAt s i < eventsOf s)
+pub ends : (s : List ℕ) → noEvent s ≡ false → (i : ℕ) → i < pairsOf s → (earlierAt s i < eventsOf s) × (laterAt s i < eventsOf s)
 unfolding noEvent noEventAt
 ends s none i l =
     let both =
@@ -105,14 +106,16 @@ starts-at : (P : Plan) → ((i : ℕ) → i < P .pairs → P .earlier i < P .eve
 starts-at P named (pair i l) = named i l
 starts-at P named (chain b c) = starts-at P named b
 
--- The test of "before" is taken to pass wherever "before" holds.
-pub sound : (s : List ℕ) → Faultless s → ((u v : ℕ) → Before (planOf s) u v → T (before (planOf s) u v)) → Sound (planOf s)
-sound s known test =
+pub sound : (s : List ℕ) → Faultless s → Sound (planOf s)
+sound s known =
     record {
       earlier-named = known .earlier;
       later-named = known .later;
-      acyclic = λ v b. fails (before (planOf s) v v) (known .acyclic v (starts-at (planOf s) (known .earlier) b)) (test v v b);
+      acyclic = λ v b. fails (before (planOf s) v v) (known .acyclic v (starts-at (planOf s) (known .earlier) b)) (before-test (planOf s) v v .1 b);
     }
+
+pub labelled : (s : List ℕ) → Faultless s → Labelled (netOf s) (planOf s)
+labelled s known = record { named = known .labels }
 
 -- Faults 1 to 4 decide, or are absent and leave it to the rest.
 decided : (b : Bool) (k x z : ℕ) → (¬ (x ≡ 0) → z ≡ x) → ¬ (cond b k x ≡ 0) → cond b k z ≡ cond b k x

@@ -1,0 +1,2 @@
+mod Pairs
+mod Cycles

@@ -1,0 +1,72 @@
+// Faults 10 and 11, and the order of a sheet's plan in rows of marks. Faults 1 to 4 and 8 are absent.
+ghost use mathlib.Core.Path.{_≡_};
+ghost use mathlib.Core.Bool.{false};
+ghost use lib.ListN.{drop};
+ghost use Rattle.sheet.specs.Table.{placesOf, transitionsOf, eventsOf, pairsOf};
+ghost use Rattle.sheet.specs.Items.{planOf};
+ghost use Rattle.sheet.specs.Faults.{noEvent, repeated, contentFaults, firstFault};
+ghost use Rattle.sheet.specs.Laid.{Laid};
+ghost use Rattle.order.specs.Rows.{Blank, PairsMarked, OrderRows};
+use closure::close;
+use closure::has_cycle;
+use lookup::earlier;
+use lookup::later;
+use marks::is_marked;
+use marks::mark;
+
+// 10: pair given twice. Marks each pair (a, b) in row a of `succ` and in row b of `pred`, up to a repeat.
+pub fn mark_pairs(
+    s: &[u8],
+    places: usize,
+    transitions: usize,
+    events: usize,
+    pairs: usize,
+    succ: &mut [u32],
+    pred: &mut [u32],
+) -> bool
+    requires { ⌜ Laid (now s) ⌝ }
+    requires { ⌜ (places ≡ placesOf (now s)) × (transitions ≡ transitionsOf (now s)) × (events ≡ eventsOf (now s)) × (pairs ≡ pairsOf (now s)) ⌝ }
+    requires { ⌜ noEvent (now s) ≡ false ⌝ }
+    requires { ⌜ Blank (now succ) × Blank (now pred) ⌝ }
+    ensures { λ r. ⌜ r ≡ repeated (now (s .entry)) ⌝ }
+    ensures { λ r. ⌜ (r ≡ false → PairsMarked (planOf (now (s .entry))) (pairsOf (now (s .entry))) (now (succ .exit)) (now (pred .exit))) ⌝ }
+{
+    for i in 0..pairs {
+        let a = earlier(s, places, transitions, events, i);
+        let b = later(s, places, transitions, events, i);
+        if is_marked(succ, a.0, b.0) {
+            return true;
+        }
+        mark(succ, a.0, b.0);
+        mark(pred, b.0, a.0);
+    }
+    false
+}
+
+// The first of faults 10 and 11, 0 for none: then `succ` marks what is after each event and `pred` what is before it.
+pub fn order_fault(
+    s: &[u8],
+    places: usize,
+    transitions: usize,
+    events: usize,
+    pairs: usize,
+    succ: &mut [u32],
+    pred: &mut [u32],
+) -> u32
+    requires { ⌜ Laid (now s) ⌝ }
+    requires { ⌜ (places ≡ placesOf (now s)) × (transitions ≡ transitionsOf (now s)) × (events ≡ eventsOf (now s)) × (pairs ≡ pairsOf (now s)) ⌝ }
+    requires { ⌜ noEvent (now s) ≡ false ⌝ }
+    requires { ⌜ Blank (now succ) × Blank (now pred) ⌝ }
+    ensures { λ r. ⌜ r ≡ firstFault (drop 5 contentFaults) (now (s .entry)) ⌝ }
+    ensures { λ r. ⌜ (r ≡ 0 → OrderRows (planOf (now (s .entry))) (now (succ .exit)) (now (pred .exit))) ⌝ }
+{
+    if mark_pairs(s, places, transitions, events, pairs, succ, pred) {
+        return 10;
+    }
+    close(succ, events);
+    if has_cycle(succ, events) {
+        return 11;
+    }
+    close(pred, events);
+    0
+}
