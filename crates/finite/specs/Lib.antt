@@ -1,3 +1,4 @@
 pub mod Bounded
 pub mod Subset
 pub mod Sum
+pub mod Count
