@@ -1,4 +1,5 @@
 pub mod Bounded
+pub mod Count
+pub mod Search
 pub mod Subset
 pub mod Sum
-pub mod Search

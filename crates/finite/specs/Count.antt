@@ -1,0 +1,52 @@
+-- How many numbers below a bound are in a set.
+use Prim.Native.Nat.{ℕ, zero, suc, _+_, _≤_, _<_}
+use native.Mathlib.Nat.{add-comm}
+use native.Mathlib.Omega.{arith}
+use mathlib.Core.Bool.{Bool}
+use mathlib.Core.Logic.{⊎-elim}
+use mathlib.Core.Path.{_≡_, refl, sym, ap, subst, _∙_}
+use lib.Dec.{T, eqb, eqb→eq, ltb, ltb→lt, nltb→le}
+use mir.Facts.{yes-eqb}
+use Rattle.finite.specs.Bounded.{decide, same}
+use Rattle.finite.specs.Subset.{Set, insert}
+use Rattle.finite.specs.Sum.{on, sum, over, on-no, over-all, over-either, sum-ext, sum-one, sum-zero}
+
+unfoldable pub count : ℕ → Set → ℕ
+count n S = over n S (λ v. 1)
+
+pub count-none : (n : ℕ) (S : Set) → ((v : ℕ) → T (S v) → ⊥) → count n S ≡ 0
+unfolding count over
+count-none n S none = sum-zero n (λ v. on (S v) 1) (λ v l. on-no (S v) 1 (none v))
+
+ones : (n : ℕ) → sum n (λ v. 1) ≡ n
+unfolding sum
+ones zero = refl
+ones (suc n) = omega (arith, ones n)
+
+pub count-le : (n : ℕ) (S : Set) → count n S ≤ n
+unfolding count
+count-le n S = omega (arith, over-all n S (λ v. 1), ones n)
+
+-- a new member
+pub count-insert : (n k : ℕ) (S : Set) → k < n → (T (S k) → ⊥) → count n (insert k S) ≡ count n S + 1
+unfolding count over
+count-insert n k S l new =
+    over-either n (λ v. eqb v k) S (λ v. 1) (λ v e t. new (subst (λ (x : ℕ). T (S x)) (eqb→eq v k e) t))
+    ∙ ap (λ (x : ℕ). x + over n S (λ v. 1)) (sum-ext n _ _ (λ v j. ap (λ (b : Bool). on b 1) (turned v)) ∙ sum-one n k (λ v. 1) l)
+    ∙ add-comm 1 (over n S (λ v. 1))
+  where
+    turned : (v : ℕ) → eqb v k ≡ eqb k v
+    turned v = same (eqb v k) (eqb k v) (λ t. yes-eqb (sym (eqb→eq v k t))) (λ t. yes-eqb (sym (eqb→eq k v t)))
+
+-- a set that lacks a number below n has fewer than n
+pub count-room : (n k : ℕ) (S : Set) → k < n → (T (S k) → ⊥) → count n S < n
+count-room n k S l new = omega (arith, count-insert n k S l new, count-le n (insert k S))
+
+pub count-within : (m n : ℕ) (S : Set) → ((v : ℕ) → T (S v) → v < n) → count m S ≤ n
+unfolding count over sum
+count-within zero n S below = omega arith
+count-within (suc m) n S below =
+    ⊎-elim
+    (λ l. omega (arith, count-le (suc m) S, ltb→lt m n l))
+    (λ l. omega (arith, count-within m n S below, on-no (S m) 1 (λ t. omega (arith, below m t, nltb→le m n l))))
+    (decide (ltb m n))

@@ -1,0 +1,5 @@
+mod Zeros
+mod Gain
+mod Queue
+mod Reasons
+mod Rounds

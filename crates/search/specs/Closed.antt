@@ -1,0 +1,20 @@
+-- The steps of a search. Row w of `pred` marks the givers before taker w, row u of `fed` the takers that giver u feeds, and the search
+-- starts at each taker with a share.
+use Prim.Native.Nat.{ℕ, _<_}
+use mathlib.Core.List.{List}
+use lib.Dec.{T}
+use lib.ListN.{getD}
+use Rattle.finite.specs.Subset.{Set}
+use Rattle.marks.specs.Marks.{marked}
+use Rattle.search.specs.Row.{In}
+
+-- Takers and givers are numbers below n.
+pub record Narrow (pred fed : List ℕ) (n : ℕ) : Type 0 where
+  pub back : (w u : ℕ) → w < n → u < 256 → T (marked pred w u) → u < n
+  pub onward : (u w : ℕ) → u < n → w < 256 → T (marked fed u w) → w < n
+
+-- Takers W and givers E that a search may not leave.
+pub record Closed (pred fed share : List ℕ) (n : ℕ) (W E : Set) : Type 0 where
+  pub roots : (w : ℕ) → w < n → 0 < getD share w 0 → T (W w)
+  pub back : (w u : ℕ) → w < n → u < n → T (W w) → T (marked pred w u) → T (E u)
+  pub onward : (u w : ℕ) → u < n → w < n → T (E u) → T (marked fed u w) → T (W w)
