@@ -1,5 +1,5 @@
 -- The bits of a word: of a union, of what two words have in common, of a complement, of a power of two, and that a word above 0 has one.
-use Prim.Native.Nat.{ℕ, zero, suc, _+_, _-_, _*_, _/_, _%_, _^_, _<_, suc-le-suc, min, max}
+use Prim.Native.Nat.{ℕ, zero, suc, _-_, _*_, _/_, _%_, _^_, _<_, suc-le-suc, min, max}
 use native.Mathlib.Nat.{div-one, div-eq-of-lt-le, zero-lt-suc, le-of-suc-le-suc, not-suc-le-zero, pow-suc}
 use native.Mathlib.Numerals.{one-add}
 use native.Mathlib.Omega.{arith}

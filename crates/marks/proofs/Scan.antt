@@ -1,5 +1,5 @@
 -- The words of two rows scanned from the last down, for a bit that shows a number with a property.
-use Prim.Native.Nat.{ℕ, _+_, _-_, _*_, _/_, _%_, _^_, _≤_, _<_}
+use Prim.Native.Nat.{ℕ, _+_, _-_, _*_, _^_, _≤_, _<_}
 use native.Mathlib.Omega.{arith}
 use mathlib.Core.Bool.{not, _&&_}
 use mathlib.Core.List.{List}

@@ -1,20 +1,19 @@
 -- The trail of a search: at its start, after one more taker, and after one more giver.
-use Prim.Native.Nat.{ℕ, _+_, _≤_, _<_}
+use Prim.Native.Nat.{ℕ, _+_, _<_}
 use native.Mathlib.Omega.{arith}
 use mathlib.Core.List.{List}
 use mathlib.Core.Logic.{_⊎_, inl, inr, ⊎-elim}
-use mathlib.Core.Path.{_≡_, refl, sym, subst, _∙_}
+use mathlib.Core.Path.{_≡_, refl, sym, subst}
 use lib.Dec.{T, ltb, ltb→lt}
 use lib.ListN.{length, set}
 use lib.Seq.{getD-set-same, getD-set-other}
 use mir.Facts.{yes-ltb}
-use Rattle.finite.specs.Subset.{Set}
 use Rattle.marks.specs.Marks.{marked, MarkAdded}
-use Rattle.search.specs.Row.{In, Empty, in-below}
-use Rattle.search.specs.Closed.{Narrow, Closed}
+use Rattle.search.specs.Row.{In, Empty}
+use Rattle.search.specs.Closed.{Narrow}
 use Rattle.search.specs.Trail.{_!_, Takers, Givers, takersOf, giversOf, FedBy, MetBy, Trail}
 use Rattle.search.specs.Steps.{Seeded}
-use Rattle.search.proofs.Gain.{gain-cases, gain-keeps, gain-has}
+use Rattle.search.proofs.Gain.{gain-cases, gain-keeps}
 use Rattle.search.proofs.Queue.{kept, below-next}
 
 -- a place keeps its reason where its entries stay

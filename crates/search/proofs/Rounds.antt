@@ -7,7 +7,7 @@ use mathlib.Core.Path.{_≡_, refl, sym, subst, _∙_}
 use lib.Dec.{T}
 use lib.ListN.{length, set}
 use lib.Seq.{getD-set-same}
-use Rattle.finite.specs.Count.{count, count-within}
+use Rattle.finite.specs.Count.{count-within}
 use Rattle.marks.specs.Marks.{marked, MarkAdded}
 use Rattle.marks.specs.Search.{Only, none-only}
 use Rattle.search.specs.Row.{members, In, Empty, AllIn, in-marked, marked-in}

@@ -1,5 +1,5 @@
 -- A row of marks that is cleared word by word.
-use Prim.Native.Nat.{ℕ, _+_, _*_, _/_, _%_, _<_}
+use Prim.Native.Nat.{ℕ, _+_, _/_, _%_, _<_}
 use native.Mathlib.Nat.{zero-add}
 use native.Mathlib.Omega.{arith}
 use mathlib.Core.Bool.{false}
@@ -10,7 +10,7 @@ use lib.ListN.{length, set}
 use lib.Seq.{getD-set-same, getD-set-other}
 use Rattle.finite.specs.Bounded.{below-suc}
 use Rattle.marks.specs.Marks.{bit, bit-none, marked}
-use Rattle.search.specs.Row.{In, Empty, in-below, in-marked}
+use Rattle.search.specs.Row.{Empty, in-below, in-marked}
 use Rattle.search.specs.Trail.{_!_}
 
 -- the first k words are 0

@@ -6,7 +6,6 @@ use lib.Dec.{T}
 use lib.ListN.{getD}
 use Rattle.finite.specs.Subset.{Set}
 use Rattle.marks.specs.Marks.{marked}
-use Rattle.search.specs.Row.{In}
 
 -- Takers and givers are numbers below n.
 pub record Narrow (pred fed : List ℕ) (n : ℕ) : Type 0 where

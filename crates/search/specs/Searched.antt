@@ -24,7 +24,7 @@ pub record Listed (row queue : List ℕ) (tail : ℕ) : Type 0 where
   pub counted : tail ≡ count 256 (members row)
   pub once : (i j : ℕ) → i < j → j < tail → ¬ (queue ! i ≡ queue ! j)
 
--- The takers and givers reached are numbers below n, are closed, and lie within whatever else is.
+-- The takers and givers reached are numbers below n, are closed, and have a trail by which they lie within whatever else is closed.
 pub record Searched (pred fed share : List ℕ) (n : ℕ) (t : Takers) (g : Givers) : Type 0 where
   pub takers : (w : ℕ) → In (t .row) w → w < n
   pub givers : (u : ℕ) → In (g .row) u → u < n

@@ -1,5 +1,5 @@
 -- `search::follow` meets its contract. The invariant: takers that u feeds are listed.
-use Prim.Native.Nat.{_-_, _≤_, _<_}
+use Prim.Native.Nat.{_-_, _<_}
 use native.Mathlib.Omega.{arith}
 use mathlib.Core.Path.{_≡_, refl, subst, _∙_}
 use borrow.Author.Needs.{needs}

@@ -1,5 +1,5 @@
 -- `search::visit` meets its contract. The invariant: givers before the taker at `head` are met and followed.
-use Prim.Native.Nat.{_-_, _≤_, _<_}
+use Prim.Native.Nat.{_-_, _<_}
 use native.Mathlib.Omega.{arith}
 use mathlib.Core.Path.{_≡_, refl, subst, _∙_}
 use borrow.Author.Needs.{needs}
