@@ -1,0 +1,82 @@
+-- Giving back tokens of one giver and drawing as many from another is an exchange.
+use Prim.Native.Nat.{ℕ, _+_, _*_, _≤_, _<_, min}
+use native.Mathlib.Nat.{le-refl}
+use native.Mathlib.Omega.{arith}
+use mathlib.Core.Bool.{not}
+use mathlib.Core.List.{List}
+use mathlib.Core.Logic.{⊎-elim}
+use mathlib.Core.Path.{_≡_, refl, sym, ap, _∙_}
+use lib.Dec.{T, T-not, eqb, eqb→eq}
+use lib.ListN.{getD}
+use mir.Facts.{yes-eqb}
+use Rattle.finite.specs.Bounded.{decide}
+use Rattle.finite.specs.Sum.{on, on-yes, on-no, on-le}
+use Rattle.marks.specs.Marks.{marked}
+use Rattle.tokenflow.specs.Rows.{Rows, Drawn, Exact, MayDraw}
+use Rattle.tokenflow.specs.Flowing.{Flowing, lacking, kept-then, kept-back, drawn-keeps, drawn-flows, given-back-flows, drawn-lacking, may-draw}
+use Rattle.drawing.specs.Moves.{Moved, moved-none, SameSizes, drawn-sizes}
+use Rattle.exchange.specs.Exchange.{Exchanged}
+
+pub exchanged-none : (n : ℕ) (pred : List ℕ) (r : Rows) (u w v : ℕ) → Flowing n pred r → min (getD (r .free) u 0) (getD (r .amount) (v * 256 + w) 0) ≡ 0 → Exchanged n pred r r u w v 0
+exchanged-none n pred r u w v f e =
+    record {
+      most = sym e;
+      moved = moved-none n pred r f;
+      same = refl;
+      freed = λ l. absurd (omega arith);
+      shares = λ b. refl;
+      others = λ a b l ne t. t;
+    }
+
+module _ (n : ℕ) (pred : List ℕ) (r m : Rows) (u w v k : ℕ) (f : Flowing n pred r) (lu : u < n) (lw : w < n) (lv : v < n) (back : Drawn m r v w k) (exact : Exact (m .amount) (m .fed)) where
+  pub middle : Flowing n pred m
+  middle = given-back-flows n m r v w k back pred f lv lw exact
+
+  -- u may feed w with what v gave back
+  pub may : k ≤ getD (r .free) u 0 → MayDraw m u w k
+  may h =
+      may-draw
+      n
+      pred
+      m
+      middle
+      u
+      w
+      k
+      lu
+      lw
+      (omega (arith, back .spent .less u))
+      (omega (arith, back .covered .less w, on-yes (eqb w w) k (yes-eqb {a = w} {b = w} refl)))
+
+  pub exchanged-some : (r′ : Rows) → Drawn m r′ u w k → T (marked pred w u) → ¬ (k ≡ 0) → k ≡ min (getD (r .free) u 0) (getD (r .amount) (v * 256 + w) 0) → Exchanged n pred r r′ u w v k
+  exchanged-some r′ d before some most =
+      let pos : 0 < k = omega arith in
+      let lackedBack = drawn-lacking n m r v w k (f .events) back lw in
+      let lacked = drawn-lacking n m r′ u w k (f .events) d lw in
+      let sizesBack = drawn-sizes m r v w k back in
+      let sizes = drawn-sizes m r′ u w k d in
+      record {
+        most = most;
+        moved = record {
+          sizes = record {
+            amounts = sizes .amounts ∙ sym (sizesBack .amounts);
+            marks = sizes .marks ∙ sym (sizesBack .marks);
+            frees = sizes .frees ∙ sym (sizesBack .frees);
+            shares = sizes .shares ∙ sym (sizesBack .shares);
+          };
+          flows = drawn-flows n m r′ u w k d pred middle pos lu lw before;
+          kept = kept-then n r m r′ (kept-back n m r (drawn-keeps n m r v w k back (f .events) lv lw)) (drawn-keeps n m r′ u w k d (f .events) lu lw);
+          lacks = omega (arith, lackedBack, lacked);
+        };
+        same = omega (arith, lackedBack, lacked);
+        freed = λ _. freed-now;
+        shares = λ b. omega (arith, back .covered .less b, d .covered .less b);
+        others = λ a b l ne t. d .raised .kept a b l (⊎-elim (λ y. y) (λ e. absurd (ne (e .1))) (back .raised .added a b l t));
+      }
+    where
+      freed-now : 0 < getD (r′ .free) v 0
+      freed-now =
+          ⊎-elim
+          (λ t. omega (arith, back .spent .less v, d .spent .less v, on-yes (eqb v v) k (yes-eqb {a = v} {b = v} refl), on-le (eqb u v) k, ap (λ (z : ℕ). getD (r .free) z 0) (eqb→eq u v t), most))
+          (λ t. omega (arith, back .spent .less v, d .spent .less v, on-yes (eqb v v) k (yes-eqb {a = v} {b = v} refl), on-no (eqb u v) k (T-not (eqb u v) t), some))
+          (decide (eqb u v))

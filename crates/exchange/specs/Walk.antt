@@ -1,0 +1,48 @@
+-- Walking back along the trail of a search: what stays true of it while givers are exchanged, and what a step does.
+use Prim.Native.Nat.{ℕ, _≤_, _<_}
+use mathlib.Core.List.{List}
+use mathlib.Core.Logic.{_⊎_}
+use mathlib.Core.Path.{_≡_}
+use lib.ListN.{getD}
+use Rattle.tokenflow.specs.Rows.{Rows}
+use Rattle.tokenflow.specs.Flowing.{lacking}
+use Rattle.search.specs.Row.{In}
+use Rattle.search.specs.Trail.{_!_, Takers, Givers, takersOf, giversOf, FedBy, MetBy}
+use Rattle.exchange.specs.declared.Step.{Step}
+use Rattle.exchange.specs.declared.Step.the-variants.{Drew, Stuck, On}
+
+-- The takers listed are events, each listed once; the givers are events, each met by way of a taker listed.
+pub record Route (n : ℕ) (pred : List ℕ) (t : Takers) (g : Givers) : Type 0 where
+  pub few : t .tail ≤ 256
+  pub takers : (i : ℕ) → i < t .tail → t .queue ! i < n
+  pub once : (i j : ℕ) → i < j → j < t .tail → ¬ (t .queue ! i ≡ t .queue ! j)
+  pub givers : (u : ℕ) → In (g .row) u → u < n
+  pub met : (u : ℕ) → In (g .row) u → MetBy pred t g u
+
+-- The giver u has tokens free, and from the place by way of which it was met the trail leads to a taker that lacks some.
+pub record Ready (r : Rows) (t : Takers) (g : Givers) (u : ℕ) : Type 0 where
+  pub giver : In (g .row) u
+  pub free : 0 < getD (r .free) u 0
+  pub reason : (i : ℕ) → i ≤ g .via ! u → (0 < getD (r .share) (t .queue ! i) 0) ⊎ FedBy (r .fed) t g i
+
+-- The rows of a search that a walk reads: the queue, the origins of its places, and the places by way of which givers were met.
+pub record Trodden : Type 0 where
+  pub queue : List ℕ
+  pub origin : List ℕ
+  pub via : List ℕ
+
+abbrev pub trodden : List ℕ → List ℕ → List ℕ → Trodden
+trodden q o v = record { queue = q; origin = o; via = v }
+
+-- A giver that is ready by these rows, whatever sets and however many takers the search listed.
+abbrev pub IsReady : ℕ → List ℕ → Trodden → Rows → ℕ → List ℕ → ℕ → List ℕ → Type 0
+IsReady n pred m r u row tail met =
+    Route n pred (takersOf row (m .queue) (m .origin) tail) (giversOf met (m .via))
+    × Ready r (takersOf row (m .queue) (m .origin) tail) (giversOf met (m .via)) u
+
+-- What a step from the giver u says: it drew tokens for a taker that lacked some; it is stuck, which no ready giver is; or it goes
+-- on at v, by way of an earlier place, and v is ready if u was.
+abbrev pub Stepped : ℕ → List ℕ → Trodden → Rows → Rows → ℕ → Step → Type 0
+Stepped n pred m r r′ u Drew = lacking n r′ < lacking n r
+Stepped n pred m r r′ u Stuck = (row : List ℕ) (tail : ℕ) (met : List ℕ) → IsReady n pred m r u row tail met → ⊥
+Stepped n pred m r r′ u (On v) = (v < n) × (m .via ! v < m .via ! u) × ((row : List ℕ) (tail : ℕ) (met : List ℕ) → IsReady n pred m r u row tail met → IsReady n pred m r′ v row tail met)

@@ -1,0 +1,93 @@
+// Exchanges of givers: one feeds a taker in place of another, along the trail of a search, until a taker that lacks tokens draws some.
+ghost use Prim.Native.Nat.{_<_, _≤_};
+ghost use lib.Dec.{T};
+ghost use lib.ListN.{length};
+ghost use mathlib.Core.Path.{_≡_};
+ghost use Rattle.marks.specs.Marks.{marked, HasRows};
+ghost use Rattle.tokenflow.specs.Rows.{rows};
+ghost use Rattle.tokenflow.specs.Flowing.{Flowing};
+ghost use Rattle.drawing.specs.Moves.{Moved};
+ghost use Rattle.search.specs.Trail.{_!_};
+ghost use Rattle.exchange.specs.Exchange.{Exchanged};
+ghost use Rattle.exchange.specs.Walk.{trodden, Stepped};
+use drawing::draw_most;
+use drawing::least;
+use tokenflow::draw;
+use tokenflow::give_back;
+
+// u feeds w in place of v, by all the tokens that u has free and v feeds. Returns how many.
+pub fn exchange(pred: &[u32], amount: &mut [u32], fed: &mut [u32], free: &mut [u32], share: &mut [u32], u: usize, w: usize, v: usize, n: usize) -> u32
+    requires { ⌜ Flowing n (now pred) (rows (now amount) (now fed) (now free) (now share)) ⌝ }
+    requires { ⌜ (u < n) × (w < n) × (v < n) ⌝ }
+    requires { ⌜ T (marked (now pred) w u) × T (marked (now fed) v w) ⌝ }
+    ensures { λ r. ⌜ Exchanged n (now (pred .entry)) (rows (now (amount .entry)) (now (fed .entry)) (now (free .entry)) (now (share .entry))) (rows (now (amount .exit)) (now (fed .exit)) (now (free .exit)) (now (share .exit))) u w v r ⌝ }
+{
+    let k = least(free[u], amount[v * 256 + w]);
+    if k == 0 {
+        return 0;
+    }
+    give_back(amount, fed, free, share, v, w, k);
+    draw(amount, fed, free, share, u, w, k);
+    k
+}
+
+// What a step of a walk comes to.
+pub enum Step {
+    Drew,
+    Stuck,
+    On(usize),
+}
+
+// The giver u, met by way of the place `at` where the taker w stands, feeds it in place of w's origin, where the walk goes on.
+fn swap(pred: &[u32], queue: &[usize], origin: &[usize], via: &[usize], amount: &mut [u32], fed: &mut [u32], free: &mut [u32], share: &mut [u32], u: usize, at: usize, w: usize, n: usize) -> Step
+    requires { ⌜ Flowing n (now pred) (rows (now amount) (now fed) (now free) (now share)) ⌝ }
+    requires { ⌜ HasRows (now pred) 256 ⌝ }
+    requires { ⌜ (256 ≤ length (now origin)) × (256 ≤ length (now via)) ⌝ }
+    requires { ⌜ (u < n) × (w < n) × (at < 256) × (at ≡ now via ! u) × (w ≡ now queue ! at) ⌝ }
+    requires { ⌜ T (marked (now pred) w u) × (0 < now free ! u) × (now share ! w ≡ 0) ⌝ }
+    ensures { λ r. ⌜ Moved n (now (pred .entry)) (rows (now (amount .entry)) (now (fed .entry)) (now (free .entry)) (now (share .entry))) (rows (now (amount .exit)) (now (fed .exit)) (now (free .exit)) (now (share .exit))) ⌝ }
+    ensures { λ r. ⌜ Stepped n (now (pred .entry)) (trodden (now (queue .entry)) (now (origin .entry)) (now (via .entry))) (rows (now (amount .entry)) (now (fed .entry)) (now (free .entry)) (now (share .entry))) (rows (now (amount .exit)) (now (fed .exit)) (now (free .exit)) (now (share .exit))) u r ⌝ }
+{
+    let v = origin[at];
+    if v >= n {
+        return Step::Stuck;
+    }
+    if via[v] >= at {
+        return Step::Stuck;
+    }
+    if !marks::is_marked(fed, v, w) {
+        return Step::Stuck;
+    }
+    exchange(pred, amount, fed, free, share, u, w, v, n);
+    Step::On(v)
+}
+
+// One step of a walk from the giver u.
+fn walk_step(pred: &[u32], queue: &[usize], origin: &[usize], via: &[usize], amount: &mut [u32], fed: &mut [u32], free: &mut [u32], share: &mut [u32], u: usize, n: usize) -> Step
+    requires { ⌜ Flowing n (now pred) (rows (now amount) (now fed) (now free) (now share)) ⌝ }
+    requires { ⌜ HasRows (now pred) 256 ⌝ }
+    requires { ⌜ (256 ≤ length (now queue)) × (256 ≤ length (now origin)) × (256 ≤ length (now via)) ⌝ }
+    requires { ⌜ u < n ⌝ }
+    ensures { λ r. ⌜ Moved n (now (pred .entry)) (rows (now (amount .entry)) (now (fed .entry)) (now (free .entry)) (now (share .entry))) (rows (now (amount .exit)) (now (fed .exit)) (now (free .exit)) (now (share .exit))) ⌝ }
+    ensures { λ r. ⌜ Stepped n (now (pred .entry)) (trodden (now (queue .entry)) (now (origin .entry)) (now (via .entry))) (rows (now (amount .entry)) (now (fed .entry)) (now (free .entry)) (now (share .entry))) (rows (now (amount .exit)) (now (fed .exit)) (now (free .exit)) (now (share .exit))) u r ⌝ }
+{
+    if free[u] == 0 {
+        return Step::Stuck;
+    }
+    let at = via[u];
+    if at >= 256 {
+        return Step::Stuck;
+    }
+    let w = queue[at];
+    if w >= n {
+        return Step::Stuck;
+    }
+    if !marks::is_marked(pred, w, u) {
+        return Step::Stuck;
+    }
+    if share[w] == 0 {
+        return swap(pred, queue, origin, via, amount, fed, free, share, u, at, w, n);
+    }
+    draw_most(pred, amount, fed, free, share, u, w, n);
+    Step::Drew
+}
