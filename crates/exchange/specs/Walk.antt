@@ -1,5 +1,6 @@
 -- Walking back along the trail of a search: what stays true of it while givers are exchanged, and what a step does.
 use Prim.Native.Nat.{ℕ, _≤_, _<_}
+use mathlib.Core.Bool.{Bool, true, false}
 use mathlib.Core.List.{List}
 use mathlib.Core.Logic.{_⊎_}
 use mathlib.Core.Path.{_≡_}
@@ -46,3 +47,8 @@ abbrev pub Stepped : ℕ → List ℕ → Trodden → Rows → Rows → ℕ → 
 Stepped n pred m r r′ u Drew = lacking n r′ < lacking n r
 Stepped n pred m r r′ u Stuck = (row : List ℕ) (tail : ℕ) (met : List ℕ) → IsReady n pred m r u row tail met → ⊥
 Stepped n pred m r r′ u (On v) = (v < n) × (m .via ! v < m .via ! u) × ((row : List ℕ) (tail : ℕ) (met : List ℕ) → IsReady n pred m r u row tail met → IsReady n pred m r′ v row tail met)
+
+-- What a walk from the giver u says: it drew tokens, or u was not ready.
+abbrev pub Walked : ℕ → List ℕ → Trodden → Rows → Rows → ℕ → Bool → Type 0
+Walked n pred m r r′ u true = lacking n r′ < lacking n r
+Walked n pred m r r′ u false = (row : List ℕ) (tail : ℕ) (met : List ℕ) → IsReady n pred m r u row tail met → ⊥

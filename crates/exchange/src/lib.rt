@@ -9,7 +9,7 @@ ghost use Rattle.tokenflow.specs.Flowing.{Flowing};
 ghost use Rattle.drawing.specs.Moves.{Moved};
 ghost use Rattle.search.specs.Trail.{_!_};
 ghost use Rattle.exchange.specs.Exchange.{Exchanged};
-ghost use Rattle.exchange.specs.Walk.{trodden, Stepped};
+ghost use Rattle.exchange.specs.Walk.{trodden, Stepped, Walked};
 use drawing::draw_most;
 use drawing::least;
 use tokenflow::draw;
@@ -90,4 +90,30 @@ fn walk_step(pred: &[u32], queue: &[usize], origin: &[usize], via: &[usize], amo
     }
     draw_most(pred, amount, fed, free, share, u, w, n);
     Step::Drew
+}
+
+// Walks from the giver u along the trail until a taker that lacks tokens draws some. Returns whether one did.
+pub fn walk(pred: &[u32], queue: &[usize], origin: &[usize], via: &[usize], amount: &mut [u32], fed: &mut [u32], free: &mut [u32], share: &mut [u32], u: usize, n: usize) -> bool
+    requires { ⌜ Flowing n (now pred) (rows (now amount) (now fed) (now free) (now share)) ⌝ }
+    requires { ⌜ HasRows (now pred) 256 ⌝ }
+    requires { ⌜ (256 ≤ length (now queue)) × (256 ≤ length (now origin)) × (256 ≤ length (now via)) ⌝ }
+    requires { ⌜ u < n ⌝ }
+    ensures { λ r. ⌜ Moved n (now (pred .entry)) (rows (now (amount .entry)) (now (fed .entry)) (now (free .entry)) (now (share .entry))) (rows (now (amount .exit)) (now (fed .exit)) (now (free .exit)) (now (share .exit))) ⌝ }
+    ensures { λ r. ⌜ Walked n (now (pred .entry)) (trodden (now (queue .entry)) (now (origin .entry)) (now (via .entry))) (rows (now (amount .entry)) (now (fed .entry)) (now (free .entry)) (now (share .entry))) (rows (now (amount .exit)) (now (fed .exit)) (now (free .exit)) (now (share .exit))) u r ⌝ }
+{
+    let mut giver = u;
+    loop {
+        let came = walk_step(pred, queue, origin, via, amount, fed, free, share, giver, n);
+        match came {
+            Step::Drew => {
+                return true;
+            }
+            Step::Stuck => {
+                return false;
+            }
+            Step::On(v) => {
+                giver = v;
+            }
+        }
+    }
 }
