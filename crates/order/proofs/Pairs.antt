@@ -50,3 +50,6 @@ module _ (P : Plan) where
         pairs = pairs-more P i succ succ₁ (g .pairs) (rw (e, f) at straight);
         turned = turned-more P i pred pred₁ (g .turned) (rw (e, f) at turned);
       }
+
+  pub all-marked : (i n : ℕ) (succ pred : List ℕ) → PairsMarked P i succ pred → i ≡ n → PairsMarked P n succ pred
+  all-marked i n succ pred g e = rw e at g
