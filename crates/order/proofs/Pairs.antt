@@ -1,16 +1,15 @@
 -- Pair after pair: those so far are marked, and none of them repeats an earlier one.
-use Prim.Native.Nat.{ℕ, _+_, _<_, _≤_}
-use native.Mathlib.Omega.{arith}
-use mathlib.Core.Bool.{Bool, false, _&&_}
+use Prim.Native.Nat.{ℕ, _+_, _<_}
+use mathlib.Core.Bool.{_&&_}
 use mathlib.Core.List.{List}
 use mathlib.Core.Path.{_≡_, refl, sym, ap, ap₂, fun-ext, _∙_}
-use lib.Dec.{T, eqb, eqb→eq}
+use lib.Dec.{eqb, eqb→eq}
 use lib.ListN.{length, length-replicate}
 use mir.Facts.{yes-eqb}
 use Rattle.finite.specs.Bounded.{any, same}
 use Rattle.marks.specs.Marks.{marked, MarkAdded}
 use Rattle.closure.specs.Ordered.{isPair}
-use Rattle.closure.specs.PlanRows.{pairs-start, turned-start, pairs-more, turned-more, PairRows}
+use Rattle.closure.specs.PlanRows.{pairs-start, turned-start, pairs-more, turned-more}
 use Rattle.plan.specs.Net.{Plan}
 use Rattle.sheet.specs.Items.{earlierAt, laterAt, planOf}
 use Rattle.sheet.specs.Faults.{samePair, repeatAt}
@@ -18,7 +17,11 @@ use Rattle.order.specs.Rows.{Blank, PairsMarked}
 
 eqb-swap : (a b : ℕ) → eqb a b ≡ eqb b a
 eqb-swap a b =
-    same (eqb a b) (eqb b a) (λ t. yes-eqb {a = b} {b = a} (sym (eqb→eq a b t))) (λ t. yes-eqb {a = a} {b = b} (sym (eqb→eq b a t)))
+    same
+    (eqb a b)
+    (eqb b a)
+    (λ t. yes-eqb {a = b} {b = a} (sym (eqb→eq a b t)))
+    (λ t. yes-eqb {a = a} {b = b} (sym (eqb→eq b a t)))
 
 -- what stands at the mark of a pair says whether it repeats one of those so far
 pub repeat-marked : (s : List ℕ) (i : ℕ) (succ pred : List ℕ) → PairsMarked (planOf s) i succ pred → (a b : ℕ) → a ≡ earlierAt s i
@@ -50,3 +53,6 @@ module _ (P : Plan) where
         pairs = pairs-more P i succ succ₁ (g .pairs) (rw (e, f) at straight);
         turned = turned-more P i pred pred₁ (g .turned) (rw (e, f) at turned);
       }
+
+  pub all-marked : (i n : ℕ) (succ pred : List ℕ) → PairsMarked P i succ pred → i ≡ n → PairsMarked P n succ pred
+  all-marked i n succ pred g e = rw e at g

@@ -10,24 +10,28 @@ use borrow.Author.Needs.{needs}
 use Rattle.fault.proofs.content_fault.Statement.{statement}
 use Rattle.fault.proofs.content_fault.Tie as tie
 
+-- k is what the list tells from its test number n on
+abbrev Tells : tie.Else1 → ℕ → ℕ → Type 0
+Tells c n k = k ≡ firstFault (drop n contentFaults) (now (c .before .before .before .before .before .args .s))
+
 -- past each test, what the rest of the list tells is told
-past-1 : (c : tie.Else1) (k : ℕ) → k ≡ firstFault (drop 1 contentFaults) (now (c .before .before .before .before .before .args .s)) → k ≡ firstFault contentFaults (now (c .before .before .before .before .before .args .s))
+past-1 : (c : tie.Else1) (k : ℕ) → Tells c 1 k → Tells c 0 k
 unfolding contentFaults
 past-1 c k e = told-later _ _ _ _ (c .before .over-opening .ensures) (c .if1 .left) k e
 
-past-2 : (c : tie.Else2) (k : ℕ) → k ≡ firstFault (drop 2 contentFaults) (now (c .before .before .before .before .before .before .before .args .s)) → k ≡ firstFault contentFaults (now (c .before .before .before .before .before .before .before .args .s))
+past-2 : (c : tie.Else2) (k : ℕ) → Tells (c .before .before) 2 k → Tells (c .before .before) 0 k
 unfolding contentFaults
 past-2 c k e = past-1 (c .before .before) k (told-later _ _ _ _ (c .before .over-weight .ensures) (c .if2 .left) k e)
 
-past-3 : (c : tie.Else3) (k : ℕ) → k ≡ firstFault (drop 3 contentFaults) (now (c .before .before .before .before .before .before .before .before .before .args .s)) → k ≡ firstFault contentFaults (now (c .before .before .before .before .before .before .before .before .before .args .s))
+past-3 : (c : tie.Else3) (k : ℕ) → Tells (c .before .before .before .before) 3 k → Tells (c .before .before .before .before) 0 k
 unfolding contentFaults
 past-3 c k e = past-2 (c .before .before) k (told-later _ _ _ _ (c .before .no-transition .ensures) (c .if3 .left) k e)
 
-past-4 : (c : tie.Else4) (k : ℕ) → k ≡ firstFault (drop 4 contentFaults) (now (c .before .before .before .before .before .before .before .before .before .before .before .args .s)) → k ≡ firstFault contentFaults (now (c .before .before .before .before .before .before .before .before .before .before .before .args .s))
+past-4 : (c : tie.Else4) (k : ℕ) → Tells (c .before .before .before .before .before .before) 4 k → Tells (c .before .before .before .before .before .before) 0 k
 unfolding contentFaults
 past-4 c k e = past-3 (c .before .before) k (told-later _ _ _ _ (c .before .no-event .ensures) (c .if4 .left) k e)
 
-past-5 : (c : tie.Else5) (k : ℕ) → k ≡ firstFault (drop 5 contentFaults) (now (c .before .before .before .before .before .before .before .before .before .before .before .before .before .args .s)) → k ≡ firstFault contentFaults (now (c .before .before .before .before .before .before .before .before .before .before .before .before .before .args .s))
+past-5 : (c : tie.Else5) (k : ℕ) → Tells (c .before .before .before .before .before .before .before .before) 5 k → Tells (c .before .before .before .before .before .before .before .before) 0 k
 unfolding contentFaults
 past-5 c k e = past-4 (c .before .before) k (told-later _ _ _ _ (c .before .self-pair .ensures) (c .if5 .left) k e)
 
@@ -67,7 +71,10 @@ unfolding contentFaults
 returns-5 c = (past-4 (c .before .before) _ (told-here _ _ _ _ (c .before .self-pair .ensures) (c .if5 .taken)), λ e. absurd (eqb-false 9 0 refl e))
 
 order-fault-requires : tie.Need-order-fault-requires
-order-fault-requires c κs = (c .before .before .before .before .before .before .before .before .before .before .before .before .before .before .before .pre .0, (c .before .before .before .before .before .before .before .before .before .before .before .before .before .before .before .pre .1 .0, (sym (c .before .before .before .before .before .no-event .ensures) ∙ c .before .before .before .before .if4 .left, c .before .before .before .before .before .before .before .before .before .before .before .before .before .before .before .pre .1 .1)))
+order-fault-requires c κs =
+    let given = c .before .before .before .before .before .before .before .before .before .before .before .before .before .before .before .pre in
+    let named = c .before .before .before .before .before .no-event .ensures in
+    (given .0, (given .1 .0, (sym named ∙ c .before .before .before .before .if4 .left, given .1 .1)))
 
 same-length : tie.Need-same-length
 same-length c = search needs
@@ -76,7 +83,8 @@ same-length-2 : tie.Need-same-length-2
 same-length-2 c = search needs
 
 returns-6 : tie.Need-returns-6
-returns-6 c = (past-5 (c .before .before .before .before .before .before .before) _ (c .before .before .before .before .order-fault .ensures .0), c .before .before .before .before .order-fault .ensures .1)
+returns-6 c =
+    let rest = c .before .before .before .before .order-fault .ensures in (past-5 (c .before .before .before .before .before .before .before) _ (rest .0), rest .1)
 
 pub content-fault-spec : {M : Type 1} → statement M
 content-fault-spec =

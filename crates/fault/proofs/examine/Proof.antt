@@ -19,7 +19,9 @@ layout-fault-requires : tie.Need-layout-fault-requires
 layout-fault-requires c κs = search needs
 
 returns : tie.Need-returns
-returns c = (c .before .layout-fault .ensures ∙ sym (layout-decides _ (λ z. c .if1 .taken (c .before .layout-fault .ensures ∙ z))), λ z. absurd (c .if1 .taken z))
+returns c =
+    let told = c .before .layout-fault .ensures in
+    (told ∙ sym (layout-decides _ (λ z. c .if1 .taken (told ∙ z))), λ z. absurd (c .if1 .taken z))
 
 entry-count-requires : tie.Need-entry-count-requires
 entry-count-requires c κs = (omega arith, known c .limited .table)
@@ -34,7 +36,12 @@ entry-count-requires-4 : tie.Need-entry-count-requires-4
 entry-count-requires-4 c κs = (omega arith, known (c .before .before .before) .limited .table)
 
 content-fault-requires : tie.Need-content-fault-requires
-content-fault-requires c κs = (known (c .before .before .before .before .before .before), ((c .before .before .before .before .before .entry-count .ensures .0, c .before .before .before .before .entry-count2 .ensures .0, c .before .before .before .entry-count3 .ensures .0, c .before .before .entry-count4 .ensures .0), c .before .before .before .before .before .before .before .before .before .before .before .pre))
+content-fault-requires c κs =
+    let places = c .before .before .before .before .before .entry-count .ensures .0 in
+    let transitions = c .before .before .before .before .entry-count2 .ensures .0 in
+    let events = c .before .before .before .entry-count3 .ensures .0 in
+    let pairs = c .before .before .entry-count4 .ensures .0 in
+    (known (c .before .before .before .before .before .before), ((places, transitions, events, pairs), c .before .before .before .before .before .before .before .before .before .before .before .pre))
 
 same-length : tie.Need-same-length
 same-length c = search needs
@@ -43,7 +50,9 @@ same-length-2 : tie.Need-same-length-2
 same-length-2 c = search needs
 
 returns-2 : tie.Need-returns-2
-returns-2 c = (c .before .before .before .before .content-fault .ensures .0 ∙ sym (content-decides _ (absent (c .before .before .before .before .before .before .before .before .before .before .before))), c .before .before .before .before .content-fault .ensures .1)
+returns-2 c =
+    let rest = c .before .before .before .before .content-fault .ensures in
+    (rest .0 ∙ sym (content-decides _ (absent (c .before .before .before .before .before .before .before .before .before .before .before))), rest .1)
 
 pub examine-spec : {M : Type 1} → statement M
 examine-spec =

@@ -1,11 +1,12 @@
 -- The repeats first, then the cycles in the closed rows.
 use native.Mathlib.Omega.{arith}
-use Prim.Native.Nat.{ℕ}
+use Prim.Native.Nat.{ℕ, _≤_}
+use mathlib.Core.List.{List}
 use mathlib.Core.Path.{_≡_, refl, _∙_}
 use borrow.Author.Tests.{eqb-false}
 use denote.Ref.{now}
 use lib.ListN.{drop}
-use Rattle.sheet.specs.Table.{pairsOf}
+use Rattle.sheet.specs.Table.{eventsOf, pairsOf}
 use Rattle.sheet.specs.Items.{planOf}
 use Rattle.sheet.specs.Faults.{cyclic, contentFaults, firstFault}
 use Rattle.sheet.specs.Chain.{told-here, told-later, told-none}
@@ -14,6 +15,40 @@ use Rattle.order.proofs.Cycles.{cycle-found, ordered}
 use borrow.Author.Needs.{needs}
 use Rattle.order.proofs.order_fault.Statement.{statement}
 use Rattle.order.proofs.order_fault.Tie as tie
+
+-- seen from past the first test: the entry, the sheet, and the marking of its pairs
+abbrev entry : tie.Else1 → tie.Start
+entry c = c .before .before .before .before .before .before .before .before .before .before .before
+
+abbrev sheet : tie.Else1 → List ℕ
+sheet c = now (entry c .args .s)
+
+abbrev marking : tie.Else1 → tie.After-mark-pairs
+marking c = c .before .before .before .before .before
+
+abbrev straight : tie.Else1 → List ℕ
+straight c = marking c .mark-pairs .last .1 .1 .1 .1 .1 .0
+
+abbrev turned : tie.Else1 → List ℕ
+turned c = marking c .mark-pairs .last .1 .1 .1 .1 .1 .1 .0
+
+-- no pair is a repeat: all are marked
+marks : (c : tie.Else1) → PairsMarked (planOf (sheet c)) (pairsOf (sheet c)) (straight c) (turned c)
+marks c = marking c .mark-pairs .ensures .1 (c .if1 .left)
+
+few : (c : tie.Else1) → eventsOf (sheet c) ≤ 256
+few c = entry c .pre .0 .limited .events
+
+past : (c : tie.Else1) (k : ℕ) → k ≡ firstFault (drop 6 contentFaults) (sheet c) → k ≡ firstFault (drop 5 contentFaults) (sheet c)
+unfolding contentFaults
+past c k e = told-later _ _ _ _ (marking c .mark-pairs .ensures .0) (c .if1 .left) k e
+
+cycles : (c : tie.After-has-cycle) → c .has-cycle .result ≡ cyclic (sheet (c .before .before .before .before .before .before))
+cycles c =
+    let known = c .before .before .before .before .before .before in
+    let given = entry known .pre in
+    c .has-cycle .ensures
+    ∙ cycle-found _ (given .0) (given .1 .1 .0) _ (given .1 .0 .2) _ _ _ (marks known) (c .before .before .before .before .close .ensures)
 
 mark-pairs-requires : tie.Need-mark-pairs-requires
 mark-pairs-requires c κs = search needs
@@ -28,22 +63,13 @@ returns : tie.Need-returns
 unfolding contentFaults
 returns c = (told-here _ _ _ _ (c .before .before .before .before .before .mark-pairs .ensures .0) (c .if1 .taken), λ e. absurd (eqb-false 10 0 refl e))
 
--- no pair is a repeat: all are marked
-marks : (c : tie.Else1) → PairsMarked (planOf (now (c .before .before .before .before .before .before .before .before .before .before .before .args .s))) (pairsOf (now (c .before .before .before .before .before .before .before .before .before .before .before .args .s))) (c .before .before .before .before .before .mark-pairs .last .1 .1 .1 .1 .1 .0) (c .before .before .before .before .before .mark-pairs .last .1 .1 .1 .1 .1 .1 .0)
-marks c = c .before .before .before .before .before .mark-pairs .ensures .1 (c .if1 .left)
-
-past : (c : tie.Else1) (k : ℕ) → k ≡ firstFault (drop 6 contentFaults) (now (c .before .before .before .before .before .before .before .before .before .before .before .args .s)) → k ≡ firstFault (drop 5 contentFaults) (now (c .before .before .before .before .before .before .before .before .before .before .before .args .s))
-unfolding contentFaults
-past c k e = told-later _ _ _ _ (c .before .before .before .before .before .mark-pairs .ensures .0) (c .if1 .left) k e
-
-cycles : (c : tie.After-has-cycle) → c .has-cycle .result ≡ cyclic (now (c .before .before .before .before .before .before .before .before .before .before .before .before .before .before .before .before .before .args .s))
-cycles c = c .has-cycle .ensures ∙ cycle-found _ (c .before .before .before .before .before .before .before .before .before .before .before .before .before .before .before .before .before .pre .0) (c .before .before .before .before .before .before .before .before .before .before .before .before .before .before .before .before .before .pre .1 .1 .0) _ (c .before .before .before .before .before .before .before .before .before .before .before .before .before .before .before .before .before .pre .1 .0 .2) _ _ _ (marks (c .before .before .before .before .before .before)) (c .before .before .before .before .close .ensures)
-
 close-requires : tie.Need-close-requires
-close-requires c κs = let few = c .before .before .before .before .before .before .before .before .before .before .before .before .pre .0 .limited .events in omega (arith, few, marks (c .before) .succ-size)
+close-requires c κs = omega (arith, entry (c .before) .pre, few (c .before), marks (c .before) .succ-size)
 
 has-cycle-requires : tie.Need-has-cycle-requires
-has-cycle-requires c κs = let few = c .before .before .before .before .before .before .before .before .before .before .before .before .before .before .before .before .pre .0 .limited .events in omega (arith, few, c .before .before .before .close .ensures .size, marks (c .before .before .before .before .before) .succ-size)
+has-cycle-requires c κs =
+    let known = c .before .before .before .before .before in
+    omega (arith, entry known .pre, few known, c .before .before .before .close .ensures .size, marks known .succ-size)
 
 same-length-3 : tie.Need-same-length-3
 same-length-3 c = search needs
@@ -53,10 +79,15 @@ same-length-4 c = search needs
 
 returns-2 : tie.Need-returns-2
 unfolding contentFaults
-returns-2 c = (past (c .before .before .before .before .before .before .before) _ (told-here _ _ _ _ (cycles (c .before)) (c .if2 .taken)), λ e. absurd (eqb-false 11 0 refl e))
+returns-2 c = (
+  past (c .before .before .before .before .before .before .before) _ (told-here _ _ _ _ (cycles (c .before)) (c .if2 .taken)),
+  λ e. absurd (eqb-false 11 0 refl e),
+)
 
 close-requires-2 : tie.Need-close-requires-2
-close-requires-2 c κs = let few = c .before .before .before .before .before .before .before .before .before .before .before .before .before .before .before .before .before .before .before .pre .0 .limited .events in omega (arith, few, marks (c .before .before .before .before .before .before .before .before) .pred-size)
+close-requires-2 c κs =
+    let known = c .before .before .before .before .before .before .before .before in
+    omega (arith, entry known .pre, few known, marks known .pred-size)
 
 same-length-5 : tie.Need-same-length-5
 same-length-5 c = search needs
@@ -66,7 +97,13 @@ same-length-6 c = search needs
 
 returns-3 : tie.Need-returns-3
 unfolding contentFaults
-returns-3 c = (past (c .before .before .before .before .before .before .before .before .before .before .before) _ (told-later _ _ _ _ (cycles (c .before .before .before .before .before)) (c .before .before .before .before .if2 .left) _ (told-none _)), λ e. ordered _ (c .before .before .before .before .before .before .before .before .before .before .before .before .before .before .before .before .before .before .before .before .before .before .pre .0) (c .before .before .before .before .before .before .before .before .before .before .before .before .before .before .before .before .before .before .before .before .before .before .pre .1 .1 .0) _ (c .before .before .before .before .before .before .before .before .before .before .before .before .before .before .before .before .before .before .before .before .before .before .pre .1 .0 .2) _ _ _ (marks (c .before .before .before .before .before .before .before .before .before .before .before)) (c .before .before .before .before .before .before .before .before .before .close .ensures) _ (c .before .before .close2 .ensures))
+returns-3 c =
+    let known = c .before .before .before .before .before .before .before .before .before .before .before in
+    let given = entry known .pre in
+    let closed = c .before .before .before .before .before .before .before .before .before .close .ensures in (
+      past known _ (told-later _ _ _ _ (cycles (c .before .before .before .before .before)) (c .before .before .before .before .if2 .left) _ (told-none _)),
+      λ e. ordered _ (given .0) (given .1 .1 .0) _ (given .1 .0 .2) _ _ _ (marks known) closed _ (c .before .before .close2 .ensures),
+    )
 
 pub order-fault-spec : {M : Type 1} → statement M
 order-fault-spec =
