@@ -62,8 +62,7 @@ module _ (n : ℕ) (pred : List ℕ) (m : Trodden) (r : Rows) (u : ℕ) (row : L
       let o = fed-there e in
       let lv = origin-names e in
       let full = f .exact .flows v w (omega (arith, f .events)) (omega (arith, names, f .events)) (o .feeds) in
-      let some : 0 < k = omega (arith, x .most, h .1 .free, full, on-yes (marked (r .fed) v w) (getD (r .amount) (v * 256 + w) 0) (o .feeds)) in
-      (
+      let some : 0 < k = omega (arith, x .most, h .1 .free, full, on-yes (marked (r .fed) v w) (getD (r .amount) (v * 256 + w) 0) (o .feeds)) in (
         h .0,
         record {
           giver = o .giver;

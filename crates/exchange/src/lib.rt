@@ -16,7 +16,17 @@ use tokenflow::draw;
 use tokenflow::give_back;
 
 // u feeds w in place of v, by all the tokens that u has free and v feeds. Returns how many.
-pub fn exchange(pred: &[u32], amount: &mut [u32], fed: &mut [u32], free: &mut [u32], share: &mut [u32], u: usize, w: usize, v: usize, n: usize) -> u32
+pub fn exchange(
+    pred: &[u32],
+    amount: &mut [u32],
+    fed: &mut [u32],
+    free: &mut [u32],
+    share: &mut [u32],
+    u: usize,
+    w: usize,
+    v: usize,
+    n: usize,
+) -> u32
     requires { ⌜ Flowing n (now pred) (rows (now amount) (now fed) (now free) (now share)) ⌝ }
     requires { ⌜ (u < n) × (w < n) × (v < n) ⌝ }
     requires { ⌜ T (marked (now pred) w u) × T (marked (now fed) v w) ⌝ }
@@ -39,7 +49,20 @@ pub enum Step {
 }
 
 // The giver u, met by way of the place `at` where the taker w stands, feeds it in place of w's origin, where the walk goes on.
-fn swap(pred: &[u32], queue: &[usize], origin: &[usize], via: &[usize], amount: &mut [u32], fed: &mut [u32], free: &mut [u32], share: &mut [u32], u: usize, at: usize, w: usize, n: usize) -> Step
+fn swap(
+    pred: &[u32],
+    queue: &[usize],
+    origin: &[usize],
+    via: &[usize],
+    amount: &mut [u32],
+    fed: &mut [u32],
+    free: &mut [u32],
+    share: &mut [u32],
+    u: usize,
+    at: usize,
+    w: usize,
+    n: usize,
+) -> Step
     requires { ⌜ Flowing n (now pred) (rows (now amount) (now fed) (now free) (now share)) ⌝ }
     requires { ⌜ HasRows (now pred) 256 ⌝ }
     requires { ⌜ (256 ≤ length (now origin)) × (256 ≤ length (now via)) ⌝ }
@@ -63,7 +86,18 @@ fn swap(pred: &[u32], queue: &[usize], origin: &[usize], via: &[usize], amount: 
 }
 
 // One step of a walk from the giver u.
-fn walk_step(pred: &[u32], queue: &[usize], origin: &[usize], via: &[usize], amount: &mut [u32], fed: &mut [u32], free: &mut [u32], share: &mut [u32], u: usize, n: usize) -> Step
+fn walk_step(
+    pred: &[u32],
+    queue: &[usize],
+    origin: &[usize],
+    via: &[usize],
+    amount: &mut [u32],
+    fed: &mut [u32],
+    free: &mut [u32],
+    share: &mut [u32],
+    u: usize,
+    n: usize,
+) -> Step
     requires { ⌜ Flowing n (now pred) (rows (now amount) (now fed) (now free) (now share)) ⌝ }
     requires { ⌜ HasRows (now pred) 256 ⌝ }
     requires { ⌜ (256 ≤ length (now queue)) × (256 ≤ length (now origin)) × (256 ≤ length (now via)) ⌝ }
@@ -86,14 +120,38 @@ fn walk_step(pred: &[u32], queue: &[usize], origin: &[usize], via: &[usize], amo
         return Step::Stuck;
     }
     if share[w] == 0 {
-        return swap(pred, queue, origin, via, amount, fed, free, share, u, at, w, n);
+        return swap(
+            pred,
+            queue,
+            origin,
+            via,
+            amount,
+            fed,
+            free,
+            share,
+            u,
+            at,
+            w,
+            n,
+        );
     }
     draw_most(pred, amount, fed, free, share, u, w, n);
     Step::Drew
 }
 
 // Walks from the giver u along the trail until a taker that lacks tokens draws some. Returns whether one did.
-pub fn walk(pred: &[u32], queue: &[usize], origin: &[usize], via: &[usize], amount: &mut [u32], fed: &mut [u32], free: &mut [u32], share: &mut [u32], u: usize, n: usize) -> bool
+pub fn walk(
+    pred: &[u32],
+    queue: &[usize],
+    origin: &[usize],
+    via: &[usize],
+    amount: &mut [u32],
+    fed: &mut [u32],
+    free: &mut [u32],
+    share: &mut [u32],
+    u: usize,
+    n: usize,
+) -> bool
     requires { ⌜ Flowing n (now pred) (rows (now amount) (now fed) (now free) (now share)) ⌝ }
     requires { ⌜ HasRows (now pred) 256 ⌝ }
     requires { ⌜ (256 ≤ length (now queue)) × (256 ≤ length (now origin)) × (256 ≤ length (now via)) ⌝ }

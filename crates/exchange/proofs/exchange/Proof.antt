@@ -1,3 +1,4 @@
+-- `exchange::exchange` meets its contract.
 use native.Mathlib.Omega.{arith}
 use mathlib.Core.Path.{sym, _∙_}
 use borrow.Author.Needs.{needs}
@@ -6,11 +7,6 @@ use Rattle.tokenflow.specs.Flowing.{may-give-back}
 use Rattle.exchange.proofs.Exchanges.{exchanged-none, middle, may, exchanged-some}
 use Rattle.exchange.proofs.exchange.Statement.{statement}
 use Rattle.exchange.proofs.exchange.Tie as tie
-use Rattle.exchange.proofs.exchange.Reads as reads
-use Rattle.exchange.proofs.exchange.Lts as lts
-use Rattle.drawing.proofs.least.Reads as least-reads
-use Rattle.tokenflow.proofs.draw.Reads as draw-reads
-use Rattle.tokenflow.proofs.give_back.Reads as give-back-reads
 
 mul-least : tie.Need-mul-least
 mul-least c = search needs
@@ -42,8 +38,7 @@ returns c =
 give-back-requires : tie.Need-give-back-requires
 give-back-requires c κs =
     let s = c .before .before .before .before .before .before .before .before .before .before .before .before .before in
-    let a = s .args in
-    (
+    let a = s .args in (
       s .pre .0 .sized,
       may-give-back (a .n) (a .pred .now) (rows (a .amount .now) (a .fed .now) (a .free .now) (a .share .now)) (s .pre .0) (a .v) (a .w) _ (s .pre .1 .0 .2) (s .pre .1 .0 .1) (s .pre .1 .1 .1) (omega (arith, c .before .before .before .before .before .least .ensures)),
     )
@@ -54,8 +49,7 @@ draw-requires c κs =
     let a = s .args in
     let g = c .before .before .before .before .before .before .before .before .before .before .before .before .give-back in
     let exact = g .ensures .1 (s .pre .0 .exact) in
-    let k = c .before .before .before .before .before .before .before .before .before .before .before .before .before .before .before .before .before .before .least in
-    (
+    let k = c .before .before .before .before .before .before .before .before .before .before .before .before .before .before .before .before .before .before .least in (
       middle (a .n) (a .pred .now) (rows (a .amount .now) (a .fed .now) (a .free .now) (a .share .now)) (rows (g .last .0) (g .last .1 .0) (g .last .1 .1 .0) (g .last .1 .1 .1 .0)) (a .u) (a .w) (a .v) (k .result) (s .pre .0) (s .pre .1 .0 .0) (s .pre .1 .0 .1) (s .pre .1 .0 .2) (g .ensures .0) exact .sized,
       may (a .n) (a .pred .now) (rows (a .amount .now) (a .fed .now) (a .free .now) (a .share .now)) (rows (g .last .0) (g .last .1 .0) (g .last .1 .1 .0) (g .last .1 .1 .1 .0)) (a .u) (a .w) (a .v) (k .result) (s .pre .0) (s .pre .1 .0 .0) (s .pre .1 .0 .1) (s .pre .1 .0 .2) (g .ensures .0) exact (omega (arith, k .ensures)),
     )

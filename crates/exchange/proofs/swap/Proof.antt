@@ -10,10 +10,6 @@ use Rattle.exchange.proofs.Steps.{named-origin, earlier-origin, feeding
 use borrow.Author.Needs.{needs}
 use Rattle.exchange.proofs.swap.Statement.{statement}
 use Rattle.exchange.proofs.swap.Tie as tie
-use Rattle.exchange.proofs.swap.Reads as reads
-use Rattle.exchange.proofs.swap.Lts as lts
-use Rattle.exchange.proofs.exchange.Reads as exchange-reads
-use Rattle.marks.proofs.is_marked.Reads as is-marked-reads
 
 mul-v : tie.Need-mul-v
 mul-v c = search needs
@@ -78,8 +74,7 @@ returns-4 c =
     let s = c .before .before .before .before .before .before .before .before .before .before .before .before .before .before .before .before .before .before .before .before .before .before .before .before .before .before .before .before in
     let a = s .args in
     let f = s .pre .1 .1 .1 .0 in
-    let x = c .before .before .before .before .before .before .before .before .exchange in
-    (
+    let x = c .before .before .before .before .before .before .before .before .exchange in (
       x .ensures .moved,
       (omega (arith, c .before .before .before .before .before .before .before .before .before .before .before .before .before .before .before .before .before .before .if1 .left), omega (arith, c .before .before .before .before .before .before .before .before .before .before .before .before .before .before .before .before .if2 .left, f .3), goes-on (a .n) (a .pred .now) (trodden (a .queue .now) (a .origin .now) (a .via .now)) (rows (a .amount .now) (a .fed .now) (a .free .now) (a .share .now)) (a .u) (a .at) (a .w) (f .3) (f .4) (s .pre .1 .1 .1 .1 .2) (rows (x .last .1 .0) (x .last .1 .1 .0) (x .last .1 .1 .1 .0) (x .last .1 .1 .1 .1 .0)) (x .result) (s .pre .0) (x .ensures)),
     )

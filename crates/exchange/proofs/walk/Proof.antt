@@ -12,12 +12,9 @@ use Rattle.exchange.specs.declared.Step.{Step}
 use Rattle.exchange.specs.declared.Step.the-variants.{Drew, Stuck, On}
 use Rattle.exchange.proofs.walk.Statement.{statement}
 use Rattle.exchange.proofs.walk.Tie as tie
-use Rattle.exchange.proofs.walk.Reads as reads
-use Rattle.exchange.proofs.walk.Lts as lts
-use Rattle.exchange.proofs.walk_step.Reads as walk-step-reads
 
 abbrev Inv-loop : tie.InvT-loop
-Inv-loop pred queue origin via amount₀ fed₀ free₀ share₀ u n giver₀ amount fed free share giver = 
+Inv-loop pred queue origin via amount₀ fed₀ free₀ share₀ u n giver₀ amount fed free share giver =
     (giver < n) × Moved n pred (rows amount₀ fed₀ free₀ share₀) (rows amount fed free share) × ((row : List ℕ) (tail : ℕ) (met : List ℕ) → IsReady n pred (trodden queue origin via) (rows amount₀ fed₀ free₀ share₀) u row tail met → IsReady n pred (trodden queue origin via) (rows amount fed free share) giver row tail met)
 
 abbrev μ-loop : tie.MeasureT-loop

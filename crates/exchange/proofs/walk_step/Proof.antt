@@ -11,11 +11,6 @@ use Rattle.exchange.proofs.Steps.{has-free, near, names, ahead}
 use borrow.Author.Needs.{needs}
 use Rattle.exchange.proofs.walk_step.Statement.{statement}
 use Rattle.exchange.proofs.walk_step.Tie as tie
-use Rattle.exchange.proofs.walk_step.Reads as reads
-use Rattle.exchange.proofs.walk_step.Lts as lts
-use Rattle.drawing.proofs.draw_most.Reads as draw-most-reads
-use Rattle.exchange.proofs.swap.Reads as swap-reads
-use Rattle.marks.proofs.is_marked.Reads as is-marked-reads
 
 mul-if1 : tie.Need-mul-if1
 mul-if1 c = search needs
@@ -26,8 +21,7 @@ slice-read-if1 c = search needs
 returns : tie.Need-returns
 returns c =
     let s = c .before .before .before .before .before .before .before .before .before .before in
-    let a = s .args in
-    (
+    let a = s .args in (
       moved-none (a .n) (a .pred .now) (rows (a .amount .now) (a .fed .now) (a .free .now) (a .share .now)) (s .pre .0),
       λ row tail met h. has-free (a .n) (a .pred .now) (trodden (a .queue .now) (a .origin .now) (a .via .now)) (rows (a .amount .now) (a .fed .now) (a .free .now) (a .share .now)) (a .u) row tail met h (c .if1 .taken),
     )
@@ -41,8 +35,7 @@ shared-slice-read-at c = search needs
 returns-2 : tie.Need-returns-2
 returns-2 c =
     let s = c .before .before .before .before .before .before .before .before .before .before .before .before in
-    let a = s .args in
-    (
+    let a = s .args in (
       moved-none (a .n) (a .pred .now) (rows (a .amount .now) (a .fed .now) (a .free .now) (a .share .now)) (s .pre .0),
       λ row tail met h. omega (arith, near (a .n) (a .pred .now) (trodden (a .queue .now) (a .origin .now) (a .via .now)) (rows (a .amount .now) (a .fed .now) (a .free .now) (a .share .now)) (a .u) row tail met h, c .if2 .taken),
     )
@@ -56,8 +49,7 @@ shared-slice-read-w c = search needs
 returns-3 : tie.Need-returns-3
 returns-3 c =
     let s = c .before .before .before .before .before .before .before .before .before .before .before .before .before .before in
-    let a = s .args in
-    (
+    let a = s .args in (
       moved-none (a .n) (a .pred .now) (rows (a .amount .now) (a .fed .now) (a .free .now) (a .share .now)) (s .pre .0),
       λ row tail met h. omega (arith, names (a .n) (a .pred .now) (trodden (a .queue .now) (a .origin .now) (a .via .now)) (rows (a .amount .now) (a .fed .now) (a .free .now) (a .share .now)) (a .u) row tail met h, c .if3 .taken),
     )
@@ -68,8 +60,7 @@ is-marked-requires c κs = search needs
 returns-4 : tie.Need-returns-4
 returns-4 c =
     let s = c .before .before .before .before .before .before .before .before .before .before .before .before .before .before .before .before in
-    let a = s .args in
-    (
+    let a = s .args in (
       moved-none (a .n) (a .pred .now) (rows (a .amount .now) (a .fed .now) (a .free .now) (a .share .now)) (s .pre .0),
       λ row tail met h. subst T (sym (c .before .is-marked .ensures) ∙ not-true _ (c .if4 .taken)) (ahead (a .n) (a .pred .now) (trodden (a .queue .now) (a .origin .now) (a .via .now)) (rows (a .amount .now) (a .fed .now) (a .free .now) (a .share .now)) (a .u) row tail met h),
     )
@@ -83,8 +74,7 @@ slice-read-if5 c = search needs
 swap-requires : tie.Need-swap-requires
 swap-requires c κs =
     let s = c .before .before .before .before .before .before .before .before .before .before .before .before .before .before .before .before .before .before .before .before .before .before in
-    let a = s .args in
-    (
+    let a = s .args in (
       s .pre .0,
       (
         s .pre .1 .0,

@@ -1,0 +1,45 @@
+-- When a search is the last: the takers and givers reached are closed and least, and no giver has tokens free.
+use Prim.Native.Nat.{ℕ, _<_}
+use mathlib.Core.Bool.{Bool, true, false}
+use mathlib.Core.List.{List}
+use mathlib.Core.Path.{_≡_}
+use lib.Dec.{T}
+use lib.ListN.{getD}
+use Rattle.finite.specs.Subset.{Set}
+use Rattle.tokenflow.specs.Rows.{Rows}
+use Rattle.tokenflow.specs.Flowing.{lacking}
+use Rattle.search.specs.Row.{In, members}
+use Rattle.search.specs.Closed.{Closed}
+use Rattle.search.specs.Searched.{Searched}
+use Rattle.search.specs.Trail.{takersOf, giversOf}
+use Rattle.exchange.specs.Walk.{Trodden}
+
+pub record Finished (n : ℕ) (pred : List ℕ) (r : Rows) (takers givers : List ℕ) : Type 0 where
+  pub takers-named : (w : ℕ) → In takers w → w < n
+  pub givers-named : (u : ℕ) → In givers u → u < n
+  pub closed : Closed pred (r .fed) (r .share) n (members takers) (members givers)
+  pub least : (W E : Set) → Closed pred (r .fed) (r .share) n W E → (u : ℕ) → In givers u → T (E u)
+  pub spent : (u : ℕ) → In givers u → getD (r .free) u 0 ≡ 0
+
+-- A giver that was met and has tokens free.
+pub record HasFree (givers free : List ℕ) (n u : ℕ) : Type 0 where
+  pub event : u < n
+  pub met : In givers u
+  pub some : 0 < getD free u 0
+
+-- Whether u was met and has tokens free, as a test says it.
+abbrev pub FreeSaid : List ℕ → List ℕ → ℕ → Bool → Type 0
+FreeSaid givers free u true = In givers u × (0 < getD free u 0)
+FreeSaid givers free u false = In givers u → 0 < getD free u 0 → ⊥
+
+-- What walking after a search says: less is lacking than before, or nothing changed and no giver that was met has tokens free.
+abbrev pub Advanced : ℕ → List ℕ → List ℕ → Trodden → Rows → Rows → Bool → Type 0
+Advanced n pred givers m r r′ true =
+    (row : List ℕ) (tail : ℕ) → Searched pred (r .fed) (r .share) n (takersOf row (m .queue) (m .origin) tail) (giversOf givers (m .via))
+    → lacking n r′ < lacking n r
+Advanced n pred givers m r r′ false = (r′ ≡ r) × ((u : ℕ) → HasFree givers (r .free) n u → ⊥)
+
+-- What a round says: less is lacking than before, or the search was the last.
+abbrev pub Rounded : ℕ → List ℕ → Rows → Rows → List ℕ → List ℕ → Bool → Type 0
+Rounded n pred r r′ takers givers true = lacking n r′ < lacking n r
+Rounded n pred r r′ takers givers false = Finished n pred r′ takers givers

@@ -1,0 +1,219 @@
+// Settles a place: searches and walks by turns, until no giver that a taker could draw on has tokens free.
+ghost use Prim.Native.Nat.{_<_, _≤_};
+ghost use lib.ListN.{length};
+ghost use Rattle.marks.specs.Marks.{HasRow};
+ghost use Rattle.marks.specs.Search.{Tells};
+ghost use Rattle.tokenflow.specs.Rows.{rows};
+ghost use Rattle.tokenflow.specs.Flowing.{Flowing};
+ghost use Rattle.drawing.specs.Moves.{Moved, Order};
+ghost use Rattle.search.specs.Searched.{Room};
+ghost use Rattle.exchange.specs.Walk.{trodden};
+ghost use Rattle.settle.specs.Finished.{Advanced, Finished, FreeSaid, HasFree, Rounded};
+use exchange::walk;
+use marks::Found;
+use search::search;
+
+// Whether u was met and has tokens free.
+fn has_free(givers: &[u32], free: &[u32], u: usize) -> bool
+    requires { ⌜ HasRow (now givers) 0 ⌝ }
+    requires { ⌜ (u < 256) × (u < length (now free)) ⌝ }
+    ensures { λ r. ⌜ FreeSaid (now (givers .entry)) (now (free .entry)) u r ⌝ }
+{
+    if !marks::is_marked(givers, 0, u) {
+        return false;
+    }
+    if free[u] == 0 {
+        return false;
+    }
+    true
+}
+
+// A giver that was met and has tokens free.
+fn find_free(givers: &[u32], free: &[u32], n: usize) -> Found
+    requires { ⌜ HasRow (now givers) 0 ⌝ }
+    requires { ⌜ (n ≤ 256) × (n ≤ length (now free)) ⌝ }
+    ensures { λ r. ⌜ Tells (HasFree (now (givers .entry)) (now (free .entry)) n) r ⌝ }
+{
+    for u in 0..n {
+        if has_free(givers, free, u) {
+            return Found::At(u);
+        }
+    }
+    Found::Nothing
+}
+
+// Walks from u if it was met.
+fn walk_met(
+    pred: &[u32],
+    givers: &[u32],
+    queue: &[usize],
+    origin: &[usize],
+    via: &[usize],
+    amount: &mut [u32],
+    fed: &mut [u32],
+    free: &mut [u32],
+    share: &mut [u32],
+    u: usize,
+    n: usize,
+)
+    requires { ⌜ Flowing n (now pred) (rows (now amount) (now fed) (now free) (now share)) ⌝ }
+    requires { ⌜ Order n (now pred) ⌝ }
+    requires { ⌜ HasRow (now givers) 0 ⌝ }
+    requires { ⌜ (256 ≤ length (now queue)) × (256 ≤ length (now origin)) × (256 ≤ length (now via)) ⌝ }
+    requires { ⌜ u < n ⌝ }
+    ensures { λ _. ⌜ Moved n (now (pred .entry)) (rows (now (amount .entry)) (now (fed .entry)) (now (free .entry)) (now (share .entry))) (rows (now (amount .exit)) (now (fed .exit)) (now (free .exit)) (now (share .exit))) ⌝ }
+{
+    if marks::is_marked(givers, 0, u) {
+        walk(pred, queue, origin, via, amount, fed, free, share, u, n);
+    }
+}
+
+// Walks from each giver that was met, as far as that still leads anywhere.
+fn walk_rest(
+    pred: &[u32],
+    givers: &[u32],
+    queue: &[usize],
+    origin: &[usize],
+    via: &[usize],
+    amount: &mut [u32],
+    fed: &mut [u32],
+    free: &mut [u32],
+    share: &mut [u32],
+    n: usize,
+)
+    requires { ⌜ Flowing n (now pred) (rows (now amount) (now fed) (now free) (now share)) ⌝ }
+    requires { ⌜ Order n (now pred) ⌝ }
+    requires { ⌜ HasRow (now givers) 0 ⌝ }
+    requires { ⌜ (256 ≤ length (now queue)) × (256 ≤ length (now origin)) × (256 ≤ length (now via)) ⌝ }
+    ensures { λ _. ⌜ Moved n (now (pred .entry)) (rows (now (amount .entry)) (now (fed .entry)) (now (free .entry)) (now (share .entry))) (rows (now (amount .exit)) (now (fed .exit)) (now (free .exit)) (now (share .exit))) ⌝ }
+{
+    for u in 0..n {
+        walk_met(
+            pred,
+            givers,
+            queue,
+            origin,
+            via,
+            amount,
+            fed,
+            free,
+            share,
+            u,
+            n,
+        );
+    }
+}
+
+// Walks from a giver that was met and has tokens free, and then from the others. Returns whether there was one.
+fn advance(
+    pred: &[u32],
+    givers: &[u32],
+    queue: &[usize],
+    origin: &[usize],
+    via: &[usize],
+    amount: &mut [u32],
+    fed: &mut [u32],
+    free: &mut [u32],
+    share: &mut [u32],
+    n: usize,
+) -> bool
+    requires { ⌜ Flowing n (now pred) (rows (now amount) (now fed) (now free) (now share)) ⌝ }
+    requires { ⌜ Order n (now pred) ⌝ }
+    requires { ⌜ HasRow (now givers) 0 ⌝ }
+    requires { ⌜ (256 ≤ length (now queue)) × (256 ≤ length (now origin)) × (256 ≤ length (now via)) ⌝ }
+    ensures { λ r. ⌜ Moved n (now (pred .entry)) (rows (now (amount .entry)) (now (fed .entry)) (now (free .entry)) (now (share .entry))) (rows (now (amount .exit)) (now (fed .exit)) (now (free .exit)) (now (share .exit))) ⌝ }
+    ensures { λ r. ⌜ Advanced n (now (pred .entry)) (now (givers .entry)) (trodden (now (queue .entry)) (now (origin .entry)) (now (via .entry))) (rows (now (amount .entry)) (now (fed .entry)) (now (free .entry)) (now (share .entry))) (rows (now (amount .exit)) (now (fed .exit)) (now (free .exit)) (now (share .exit))) r ⌝ }
+{
+    let found = find_free(givers, free, n);
+    let Found::At(u) = found else {
+        return false;
+    };
+    walk(pred, queue, origin, via, amount, fed, free, share, u, n);
+    walk_rest(
+        pred,
+        givers,
+        queue,
+        origin,
+        via,
+        amount,
+        fed,
+        free,
+        share,
+        n,
+    );
+    true
+}
+
+// One search, and the walks that it leads to. Returns whether less is lacking now.
+fn round(
+    pred: &[u32],
+    amount: &mut [u32],
+    fed: &mut [u32],
+    free: &mut [u32],
+    share: &mut [u32],
+    takers: &mut [u32],
+    givers: &mut [u32],
+    queue: &mut [usize],
+    origin: &mut [usize],
+    via: &mut [usize],
+    n: usize,
+) -> bool
+    requires { ⌜ Flowing n (now pred) (rows (now amount) (now fed) (now free) (now share)) ⌝ }
+    requires { ⌜ Order n (now pred) ⌝ }
+    requires { ⌜ Room (now takers) (now givers) (now queue) (now origin) (now via) ⌝ }
+    ensures { λ r. ⌜ Moved n (now (pred .entry)) (rows (now (amount .entry)) (now (fed .entry)) (now (free .entry)) (now (share .entry))) (rows (now (amount .exit)) (now (fed .exit)) (now (free .exit)) (now (share .exit))) ⌝ }
+    ensures { λ r. ⌜ Rounded n (now (pred .entry)) (rows (now (amount .entry)) (now (fed .entry)) (now (free .entry)) (now (share .entry))) (rows (now (amount .exit)) (now (fed .exit)) (now (free .exit)) (now (share .exit))) (now (takers .exit)) (now (givers .exit)) r ⌝ }
+{
+    search(pred, fed, share, n, takers, givers, queue, origin, via);
+    advance(
+        pred,
+        givers,
+        queue,
+        origin,
+        via,
+        amount,
+        fed,
+        free,
+        share,
+        n,
+    )
+}
+
+// Rounds until the search is the last. Each but that one leaves less lacking.
+pub fn settle(
+    pred: &[u32],
+    amount: &mut [u32],
+    fed: &mut [u32],
+    free: &mut [u32],
+    share: &mut [u32],
+    takers: &mut [u32],
+    givers: &mut [u32],
+    queue: &mut [usize],
+    origin: &mut [usize],
+    via: &mut [usize],
+    n: usize,
+)
+    requires { ⌜ Flowing n (now pred) (rows (now amount) (now fed) (now free) (now share)) ⌝ }
+    requires { ⌜ Order n (now pred) ⌝ }
+    requires { ⌜ Room (now takers) (now givers) (now queue) (now origin) (now via) ⌝ }
+    ensures { λ _. ⌜ Moved n (now (pred .entry)) (rows (now (amount .entry)) (now (fed .entry)) (now (free .entry)) (now (share .entry))) (rows (now (amount .exit)) (now (fed .exit)) (now (free .exit)) (now (share .exit))) ⌝ }
+    ensures { λ _. ⌜ Finished n (now (pred .entry)) (rows (now (amount .exit)) (now (fed .exit)) (now (free .exit)) (now (share .exit))) (now (takers .exit)) (now (givers .exit)) ⌝ }
+{
+    loop {
+        if !round(
+            pred,
+            amount,
+            fed,
+            free,
+            share,
+            takers,
+            givers,
+            queue,
+            origin,
+            via,
+            n,
+        ) {
+            return;
+        }
+    }
+}
