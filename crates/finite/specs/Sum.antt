@@ -1,11 +1,13 @@
 -- Finite sums: of the numbers f i with i below a bound, of those at members of a set, and of those whose index has a given end.
 use Prim.Native.Nat.{ℕ, zero, suc, _+_, _≤_, _<_}
 use native.Mathlib.Nat.{le-step, lt-suc-self, not-suc-le-zero, le-refl, add-zero, zero-add, lt-irrefl, lt-of-lt-of-le, eq-or-lt-of-le}
+use mathlib.Core.List.{List}
 use mathlib.Core.Logic.{⊎-elim}
 use native.Mathlib.Omega.{arith}
 use mathlib.Core.Bool.{Bool, true, false, _||_}
 use mathlib.Core.Path.{_≡_, refl, sym, ap, ap₂, subst, _∙_}
 use lib.Dec.{T, eqb, eqb-refl, eqb→eq}
+use lib.ListN.{getD}
 use Rattle.finite.specs.Bounded.{below-suc}
 
 -- x where the test passes, else 0
@@ -162,3 +164,7 @@ sum-tight n f g h e k l =
 pub on-sum : (b : Bool) (n : ℕ) (f : ℕ → ℕ) → on b (sum n f) ≡ sum n (λ i. on b (f i))
 on-sum true n f = refl
 on-sum false n f = sym (sum-zero n (λ i. 0) (λ i l. refl))
+
+-- the sum of the first n numbers of a list
+unfoldable pub sumOf : List ℕ → ℕ → ℕ
+sumOf xs n = sum n (λ i. getD xs i 0)
