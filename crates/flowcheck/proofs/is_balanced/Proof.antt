@@ -1,96 +1,114 @@
+-- Event after event: those so far keep rules 1 and 2.
+use Prim.Native.Nat.{ℕ, _+_, _*_, _<_, _≤_, _-_}
+use mathlib.Core.Bool.{true}
+use mathlib.Core.Path.{_≡_, sym, ap, _∙_}
+use borrow.Author.Tests.{not-true, not-false}
+use denote.Ref.{now}
+use lib.ListN.{length, getD}
+use Rattle.finite.specs.Bounded.{all}
+use Rattle.finite.specs.Search.{all-start, all-more, all-broken, all-done}
+use Rattle.sheet.specs.Table.{transitionsOf, eventsOf}
+use Rattle.sheet.specs.Items.{takesAt, givesAt, netOf, planOf}
+use Rattle.calls.specs.FlowRow.{flowOf}
+use Rattle.flowcheck.proofs.Rules.{keptAt, kept-told, kept-rules}
 use borrow.Author.Needs.{needs}
 use native.Mathlib.Omega.{arith}
 use Rattle.flowcheck.proofs.is_balanced.Statement.{statement}
 use Rattle.flowcheck.proofs.is_balanced.Tie as tie
-use Rattle.flowcheck.proofs.is_balanced.Reads as reads
-use Rattle.flowcheck.proofs.is_balanced.Lts as lts
-use Rattle.flowcheck.proofs.keeps.Reads as keeps-reads
-use Rattle.flowcheck.proofs.wide.Reads as wide-reads
-use Rattle.lookup.proofs.gives.Reads as gives-reads
-use Rattle.lookup.proofs.label.Reads as label-reads
-use Rattle.lookup.proofs.takes.Reads as takes-reads
 
 abbrev Inv-loop : tie.InvT-loop
-Inv-loop s places transitions events pairs p row into out v₀ v = ?
+Inv-loop s places transitions events pairs p row into out v₀ v = (v ≤ events) × (all v (keptAt (netOf s) (planOf s) (p .0) (flowOf row)) ≡ true)
 
 abbrev μ-loop : tie.MeasureT-loop
-μ-loop s places transitions events pairs p row into out v₀ v = ?
+μ-loop s places transitions events pairs p row into out v₀ v = events - v
 
--- src/lib.rt:138:5
 loop-holds : tie.Need-loop-holds Inv-loop μ-loop
-loop-holds c = search needs
+loop-holds c = (search needs, all-start _)
 
--- src/lib.rt:139:13
 label-requires : tie.Need-label-requires Inv-loop μ-loop
-label-requires c κs = search needs
+label-requires c κs = let s = c .before .before .before .before .before .before in (s .pre .0 .laid, ((s .pre .1 .0 .0, s .pre .1 .0 .1), omega arith))
 
--- src/lib.rt:140:13
+-- the event's label is a transition
+named : (c : tie.After-label Inv-loop μ-loop) → c .label .result .0 < transitionsOf (now (c .before .before .before .before .before .before .before .args .s))
+named c =
+    let l : c .before .before .loop .v < eventsOf (now (c .before .before .before .before .before .before .before .args .s)) = omega arith in
+    omega (arith, c .label .ensures, c .before .before .before .before .before .before .before .pre .0 .labels (c .before .before .loop .v) l)
+
 takes-requires : tie.Need-takes-requires Inv-loop μ-loop
-takes-requires c κs = search needs
+takes-requires c κs = let s = c .before .before .before .before .before .before .before in (s .pre .0 .laid, (s .pre .1 .0 .0, (named c, omega (arith, s .pre .1 .1 .0))))
 
--- src/lib.rt:141:13
 gives-requires : tie.Need-gives-requires Inv-loop μ-loop
-gives-requires c κs = search needs
+gives-requires c κs = let s = c .before .before .before .before .before .before .before .before in (s .pre .0 .laid, (s .pre .1 .0 .0, (named (c .before), omega (arith, s .pre .1 .1 .0))))
 
--- src/lib.rt:142:32
+-- the counts are within their limits, and the event is one of those
+few : (c : tie.In-loop Inv-loop μ-loop) → (c .before .before .before .before .before .before .args .pairs ≤ 1024) × (c .before .loop .v < 256) × (c .before .before .before .before .before .before .args .pairs + c .before .loop .v < length (now (c .before .before .before .before .before .before .args .row)))
+few c =
+    let s = c .before .before .before .before .before .before in (
+      omega (arith, s .pre .0 .laid .limited .pairs),
+      omega (arith, s .pre .0 .laid .limited .events),
+      omega (arith, s .pre .1 .1 .1 .0),
+    )
+
 add-wide : tie.Need-add-wide Inv-loop μ-loop
-add-wide c = search needs
+add-wide c = omega (arith, few (c .before .before .before))
 
--- src/lib.rt:142:28
 mul-wide : tie.Need-mul-wide Inv-loop μ-loop
 mul-wide c = search needs
 
--- src/lib.rt:142:28
 shared-slice-read-wide : tie.Need-shared-slice-read-wide Inv-loop μ-loop
-shared-slice-read-wide c = search needs
+shared-slice-read-wide c = omega (arith, few (c .before .before .before .before))
 
--- src/lib.rt:142:23
 wide-requires : tie.Need-wide-requires Inv-loop μ-loop
 wide-requires c κs = search needs
 
--- src/lib.rt:142:46
 mul-arrived : tie.Need-mul-arrived Inv-loop μ-loop
 mul-arrived c = search needs
 
--- src/lib.rt:142:46
 shared-slice-read-arrived : tie.Need-shared-slice-read-arrived Inv-loop μ-loop
-shared-slice-read-arrived c = search needs
+shared-slice-read-arrived c = omega (arith, few (c .before .before .before .before .before .before), c .before .before .before .before .before .before .before .before .before .before .before .before .pre .1 .1 .1 .1 .arrive .size)
 
--- src/lib.rt:142:23
+-- what the pairs carry into the event and out of it
+carried : (c : tie.In-loop Inv-loop μ-loop) → (getD (now (c .before .before .before .before .before .before .args .into)) (c .before .loop .v) 0 ≤ 4294967295 * 1024) × (getD (now (c .before .before .before .before .before .before .args .out)) (c .before .loop .v) 0 ≤ 4294967295 * 1024)
+carried c =
+    let s = c .before .before .before .before .before .before in
+    let v = c .before .loop .v in
+    let l = s .pre .0 .laid .limited .pairs in
+    (omega (arith, l, s .pre .1 .1 .1 .1 .arrive .most v), omega (arith, l, s .pre .1 .1 .1 .1 .leave .most v))
+
 add-arrived : tie.Need-add-arrived Inv-loop μ-loop
-add-arrived c = search needs
+add-arrived c = omega (arith, carried (c .before .before .before .before .before .before), c .before .wide .ensures .1)
 
--- src/lib.rt:143:42
 mul-keeps : tie.Need-mul-keeps Inv-loop μ-loop
 mul-keeps c = search needs
 
--- src/lib.rt:143:42
 shared-slice-read-keeps : tie.Need-shared-slice-read-keeps Inv-loop μ-loop
-shared-slice-read-keeps c = search needs
+shared-slice-read-keeps c = omega (arith, few (c .before .before .before .before .before .before .before), c .before .before .before .before .before .before .before .before .before .before .before .before .before .pre .1 .1 .1 .1 .leave .size)
 
--- src/lib.rt:143:13
 keeps-requires : tie.Need-keeps-requires Inv-loop μ-loop
-keeps-requires c κs = search needs
+keeps-requires c κs = (omega (arith, carried (c .before .before .before .before .before .before .before), c .before .before .wide .ensures .1), omega (arith, carried (c .before .before .before .before .before .before .before)))
 
--- src/lib.rt:144:13
+-- what was told is rules 1 and 2 at the event
+told : (c : tie.After-keeps Inv-loop μ-loop) → c .keeps .result ≡ keptAt (netOf (now (c .before .before .before .before .before .before .before .before .before .before .before .before .before .before .args .s))) (planOf (now (c .before .before .before .before .before .before .before .before .before .before .before .before .before .before .args .s))) (c .before .before .before .before .before .before .before .before .before .before .before .before .before .before .args .p .0) (flowOf (now (c .before .before .before .before .before .before .before .before .before .before .before .before .before .before .args .row))) (c .before .before .before .before .before .before .before .before .before .loop .v)
+told c =
+    let s = c .before .before .before .before .before .before .before .before .before .before .before .before .before .before in
+    let t = c .before .before .before .before .before .before .before .label .ensures in
+    c .keeps .ensures
+    ∙ kept-told (netOf (now (s .args .s))) (planOf (now (s .args .s))) (s .args .p .0) (flowOf (now (s .args .row))) (c .before .before .before .before .before .before .before .before .before .loop .v) _ _ (s .pre .1 .1 .1 .1) _ _ _ (c .before .before .before .before .before .before .takes .ensures ∙ ap (λ (u : ℕ). takesAt (now (s .args .s)) u (s .args .p .0)) t) (c .before .before .before .before .before .gives .ensures ∙ ap (λ (u : ℕ). givesAt (now (s .args .s)) u (s .args .p .0)) t) (c .before .before .before .wide .ensures .0 ∙ ap (λ (m : ℕ). getD (now (s .args .row)) (m + c .before .before .before .before .before .before .before .before .before .loop .v) 0) (s .pre .1 .0 .3))
+
 returns : tie.Need-returns Inv-loop μ-loop
-returns c = search needs
+returns c = all-broken _ _ _ _ (c .before .before .before .before .before .before .before .before .before .before .before .before .before .before .before .pre .1 .0 .2) (c .before .before .before .before .before .before .before .before .before .loop-test .taken) (sym (told (c .before)) ∙ not-true _ (c .if1 .taken)) ∙ kept-rules _ _ _ _
 
--- src/lib.rt:138:9
 add-v : tie.Need-add-v Inv-loop μ-loop
 add-v c = search needs
 
--- src/lib.rt:138:5
 loop-less : tie.Need-loop-less Inv-loop μ-loop
 loop-less c = search needs
 
--- src/lib.rt:138:5
 loop-again : tie.Need-loop-again Inv-loop μ-loop
-loop-again c = search needs
+loop-again c = (search needs, all-more _ _ (c .before .before .before .before .before .before .before .before .before .before .loop .inv .1) (sym (told (c .before)) ∙ not-false _ (c .if1 .left)))
 
--- src/lib.rt:120:1
 returns-2 : tie.Need-returns-2 Inv-loop μ-loop
-returns-2 c = search needs
+returns-2 c = all-done _ _ _ _ (c .before .before .before .before .before .before .pre .1 .0 .2) (c .before .loop .inv .0) (c .loop-test .left) (c .before .loop .inv .1) ∙ kept-rules _ _ _ _
 
 pub is-balanced-spec : {M : Type 1} → statement M
 is-balanced-spec =

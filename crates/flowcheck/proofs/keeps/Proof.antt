@@ -1,38 +1,30 @@
+-- Rule 1, and then rule 2.
+use Rattle.flowcheck.proofs.Rules.{kept-short, kept-rest}
 use native.Mathlib.Omega.{arith}
 use borrow.Author.Needs.{needs}
 use Rattle.flowcheck.proofs.keeps.Statement.{statement}
 use Rattle.flowcheck.proofs.keeps.Tie as tie
-use Rattle.flowcheck.proofs.keeps.Reads as reads
-use Rattle.flowcheck.proofs.keeps.Lts as lts
-use Rattle.flowcheck.proofs.wide.Reads as wide-reads
 
--- src/lib.rt:113:18
 wide-requires : tie.Need-wide-requires
 wide-requires c κs = search needs
 
--- src/lib.rt:114:9
 returns : tie.Need-returns
-returns c = search needs
+returns c = kept-short _ _ _ _ _ (c .before .wide .ensures .0) (c .if1 .taken)
 
--- src/lib.rt:116:12
 wide-requires-2 : tie.Need-wide-requires-2
 wide-requires-2 c κs = search needs
 
--- src/lib.rt:116:5
 add-result : tie.Need-add-result
 add-result c = search needs
 
--- src/lib.rt:116:37
 wide-requires-3 : tie.Need-wide-requires-3
 wide-requires-3 c κs = search needs
 
--- src/lib.rt:116:27
 add-result-2 : tie.Need-add-result-2
 add-result-2 c = search needs
 
--- src/lib.rt:109:1
 returns-2 : tie.Need-returns-2
-returns-2 c = search needs
+returns-2 c = kept-rest _ _ _ _ _ _ _ (c .before .before .before .wide .ensures .0) (c .before .wide2 .ensures .0) (c .wide3 .ensures .0) (c .before .before .if1 .left)
 
 pub keeps-spec : {M : Type 1} → statement M
 keeps-spec =

@@ -1,38 +1,32 @@
-use native.Mathlib.Omega.{arith}
+-- What is stored is the sum.
+use Prim.Native.Nat.{ℕ, _+_}
+use mathlib.Core.Path.{ap}
+use denote.Ref.{now}
+use lib.ListN.{getD, set}
 use borrow.Author.Needs.{needs}
 use Rattle.flowcheck.proofs.raise.Statement.{statement}
 use Rattle.flowcheck.proofs.raise.Tie as tie
-use Rattle.flowcheck.proofs.raise.Reads as reads
-use Rattle.flowcheck.proofs.raise.Lts as lts
-use Rattle.flowcheck.proofs.wide.Reads as wide-reads
 
--- src/lib.rt:46:16
 wide-requires : tie.Need-wide-requires
 wide-requires c κs = search needs
 
--- src/lib.rt:46:5
 mul-sums : tie.Need-mul-sums
 mul-sums c = search needs
 
--- src/lib.rt:46:5
 slice-read-sums : tie.Need-slice-read-sums
 slice-read-sums c = search needs
 
--- src/lib.rt:46:5
 add-sums : tie.Need-add-sums
 add-sums c = search needs
 
--- src/lib.rt:46:5
 slice-write-sums : tie.Need-slice-write-sums
 slice-write-sums c = search needs
 
--- src/lib.rt:41:1
 same-length : tie.Need-same-length
 same-length c = search needs
 
--- src/lib.rt:41:1
 returns : tie.Need-returns
-returns c = search needs
+returns c = let a = c .before .before .before .args in ap (λ (y : ℕ). set (now (a .sums)) (a .v) (getD (now (a .sums)) (a .v) 0 + y)) (c .before .wide .ensures .0)
 
 pub raise-spec : {M : Type 1} → statement M
 raise-spec =
