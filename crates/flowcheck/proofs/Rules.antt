@@ -1,7 +1,7 @@
 -- What each test says of the rules.
 use Prim.Native.Nat.{ℕ, _+_, _<_, _≤_}
 use native.Mathlib.Omega.{arith}
-use mathlib.Core.Bool.{Bool, true, false, not, _&&_, _||_, or-true, or-false, and-false}
+use mathlib.Core.Bool.{Bool, true, false, not, _&&_, _||_, or-true, or-false, and-true, and-false}
 use mathlib.Core.List.{List}
 use mathlib.Core.Path.{_≡_, refl, sym, ap, ap₂, _∙_}
 use borrow.Author.Tests.{eq-eqb, ne-eqb, le-leb, lt-leb, lt-ltb, le-ltb}
@@ -19,6 +19,7 @@ use Rattle.sheet.specs.Items.{earlierAt, laterAt, labelAt, takesAt, givesAt, op
 use Rattle.sheet.specs.Faultless.{Faultless}
 use Rattle.order.specs.Rows.{OrderRows}
 use Rattle.order.specs.Laws.{skeleton-marked}
+use Rattle.calls.specs.FlowRow.{flowOf}
 use Rattle.flowcheck.specs.Sums.{kept, sharesOf, Carried}
 
 -- rule 4 at a pair that carries 0
@@ -76,3 +77,22 @@ pub kept-told : (N : Net) (P : Plan) (p : ℕ) (x : Flow) (v : ℕ) (into out : 
     → kept taken given (w + getD into v 0) (getD out v 0) ≡ keptAt N P p x v
 unfolding inflow outflow
 kept-told N P p x v into out g taken given w takes gives shared = simp (takes, gives, shared, g .arrive .value v, g .leave .value v)
+
+pub rule3-told : (s : List ℕ) (p : ℕ) (row : List ℕ) (pairs events total o : ℕ) (r : Bool) → pairs ≡ pairsOf s → events ≡ eventsOf s
+    → total ≡ sharesOf row pairs events → o ≡ openingAt s p → r ≡ leb total o → r ≡ rule3 (netOf s) (planOf s) p (flowOf row)
+unfolding rule3 shares sharesOf
+rule3-told s p row pairs events total o r e f all-shares read told =
+    told ∙ ap₂ leb (all-shares ∙ ap₂ (sharesOf row) e f) read
+
+module _ (N : Net) (P : Plan) (p : ℕ) (x : Flow) where
+  pub breaks-4 : rule4 P x ≡ false → false ≡ valid N P p x
+  unfolding valid
+  breaks-4 e = simp (e, and-false)
+
+  pub breaks-3 : rule3 N P p x ≡ false → false ≡ valid N P p x
+  unfolding valid
+  breaks-3 e = simp (e, and-false)
+
+  pub rest-decides : (r : Bool) → rule4 P x ≡ true → rule3 N P p x ≡ true → r ≡ (rule1 N P p x && rule2 N P p x) → r ≡ valid N P p x
+  unfolding valid
+  rest-decides r e f told = told ∙ simp (e, f, and-true)

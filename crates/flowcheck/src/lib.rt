@@ -2,7 +2,7 @@
 ghost use Prim.Native.Nat.{_+_, _*_, _<_, _≤_};
 ghost use mathlib.Core.Bool.{true, not, _&&_, _||_};
 ghost use mathlib.Core.Path.{_≡_};
-ghost use lib.Dec.{eqb};
+ghost use lib.Dec.{leb, eqb};
 ghost use lib.ListN.{length, getD, set, replicate};
 ghost use Rattle.marks.specs.Marks.{meeting, HasRow};
 ghost use Rattle.plan.specs.Flow.{rule1, rule2, rule4, valid};
@@ -105,6 +105,13 @@ fn add_shares(row: &[u32], pairs: usize, events: usize) -> u64
     total
 }
 
+// Rule 3: whether the shares come to at most the opening count.
+fn covers(opening: u32, total: u64) -> bool
+    ensures { λ r. ⌜ r ≡ leb total opening ⌝ }
+{
+    total <= opening as u64
+}
+
 // Rules 1 and 2 at one event: it gets what it takes, and passes on no more than it has then.
 fn keeps(taken: u32, given: u32, arrived: u64, left: u64) -> bool
     requires { ⌜ (arrived ≤ 4294967295 * 1025) × (left ≤ 4294967295 * 1025) ⌝ }
@@ -168,10 +175,22 @@ fn is_valid(
 {
     let mut into = [0u64; 256];
     let mut out = [0u64; 256];
-    if !add_pairs(s, places, transitions, events, pairs, row, succ, pred, &mut into, &mut out) {
+    if !add_pairs(
+        s,
+        places,
+        transitions,
+        events,
+        pairs,
+        row,
+        succ,
+        pred,
+        &mut into,
+        &mut out,
+    ) {
         return false;
     }
-    if wide(opening(s, p)) < add_shares(row, pairs, events) {
+    let total = add_shares(row, pairs, events);
+    if !covers(opening(s, p), total) {
         return false;
     }
     is_balanced(s, places, transitions, events, pairs, p, row, &into, &out)

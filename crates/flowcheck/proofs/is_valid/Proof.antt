@@ -1,61 +1,57 @@
+-- Rule 4, then rule 3, and then the other two.
+use mathlib.Core.Path.{_≡_, refl, sym, _∙_}
+use native.Mathlib.Omega.{arith}
+use borrow.Author.Tests.{not-true, not-false}
+use denote.Ref.{now}
+use Rattle.plan.specs.Flow.{rule3}
+use Rattle.sheet.specs.Items.{netOf, planOf}
+use Rattle.calls.specs.FlowRow.{flowOf}
+use Rattle.flowcheck.proofs.Rules.{rule3-told, breaks-3, breaks-4, rest-decides}
 use borrow.Author.Needs.{needs}
 use Rattle.flowcheck.proofs.is_valid.Statement.{statement}
 use Rattle.flowcheck.proofs.is_valid.Tie as tie
-use Rattle.flowcheck.proofs.is_valid.Reads as reads
-use Rattle.flowcheck.proofs.is_valid.Lts as lts
-use Rattle.flowcheck.proofs.add_pairs.Reads as add-pairs-reads
-use Rattle.flowcheck.proofs.add_shares.Reads as add-shares-reads
-use Rattle.flowcheck.proofs.is_balanced.Reads as is-balanced-reads
-use Rattle.flowcheck.proofs.wide.Reads as wide-reads
-use Rattle.lookup.proofs.opening.Reads as opening-reads
 
--- src/lib.rt:171:75
 slice-aggregate-add-pairs : tie.Need-slice-aggregate-add-pairs
 slice-aggregate-add-pairs c = search needs
 
--- src/lib.rt:171:86
 slice-aggregate-add-pairs-2 : tie.Need-slice-aggregate-add-pairs-2
 slice-aggregate-add-pairs-2 c = search needs
 
--- src/lib.rt:171:9
 add-pairs-requires : tie.Need-add-pairs-requires
-add-pairs-requires c κs = ?
+add-pairs-requires c κs = let s = c .before .before .before .before .before .before .pre in (s .0, (s .1 .0, (s .1 .1 .1 .1, (omega (arith, s .1 .1 .1 .0), (refl, refl)))))
 
--- src/lib.rt:172:9
+-- what was told is rule 3
+told : (c : tie.After-covers) → c .covers .result ≡ rule3 (netOf (now (c .before .before .before .before .before .before .before .before .before .before .before .before .before .args .s))) (planOf (now (c .before .before .before .before .before .before .before .before .before .before .before .before .before .args .s))) (c .before .before .before .before .before .before .before .before .before .before .before .before .before .args .p .0) (flowOf (now (c .before .before .before .before .before .before .before .before .before .before .before .before .before .args .row)))
+told c =
+    let s = c .before .before .before .before .before .before .before .before .before .before .before .before .before in
+    rule3-told _ _ _ _ _ _ _ _ (s .pre .1 .0 .3) (s .pre .1 .0 .2) (c .before .before .add-shares .ensures) (c .before .opening .ensures) (c .covers .ensures)
+
 returns : tie.Need-returns
-returns c = ?
+returns c = breaks-4 _ _ _ _ (sym (c .before .before .before .add-pairs .ensures .0) ∙ not-true _ (c .if1 .taken))
 
--- src/lib.rt:174:13
-opening-requires : tie.Need-opening-requires
-opening-requires c κs = search needs
-
--- src/lib.rt:174:8
-wide-requires : tie.Need-wide-requires
-wide-requires c κs = search needs
-
--- src/lib.rt:174:30
 add-shares-requires : tie.Need-add-shares-requires
 add-shares-requires c κs = search needs
 
--- src/lib.rt:175:9
-returns-2 : tie.Need-returns-2
-returns-2 c = ?
+opening-requires : tie.Need-opening-requires
+opening-requires c κs = search needs
 
--- src/lib.rt:177:64
+covers-requires : tie.Need-covers-requires
+covers-requires c κs = search needs
+
+returns-2 : tie.Need-returns-2
+returns-2 c = breaks-3 _ _ _ _ (sym (told (c .before)) ∙ not-true _ (c .if2 .taken))
+
 slice-aggregate-is-balanced : tie.Need-slice-aggregate-is-balanced
 slice-aggregate-is-balanced c = search needs
 
--- src/lib.rt:177:71
 slice-aggregate-is-balanced-2 : tie.Need-slice-aggregate-is-balanced-2
 slice-aggregate-is-balanced-2 c = search needs
 
--- src/lib.rt:177:5
 is-balanced-requires : tie.Need-is-balanced-requires
-is-balanced-requires c κs = ?
+is-balanced-requires c κs = let s = c .before .before .before .before .before .before .before .before .before .before .before .before .before .before .before .before .pre in (s .0, (s .1 .0, (s .1 .1 .0, (s .1 .1 .1 .0, c .before .before .before .before .before .before .before .before .before .add-pairs .ensures .1 (not-false _ (c .before .before .before .before .before .before .if1 .left))))))
 
--- src/lib.rt:151:1
 returns-3 : tie.Need-returns-3
-returns-3 c = ?
+returns-3 c = rest-decides _ _ _ _ _ (sym (c .before .before .before .before .before .before .before .before .before .before .add-pairs .ensures .0) ∙ not-false _ (c .before .before .before .before .before .before .before .if1 .left)) (sym (told (c .before .before .before .before)) ∙ not-false _ (c .before .before .before .if2 .left)) (c .is-balanced .ensures)
 
 pub is-valid-spec : {M : Type 1} → statement M
 is-valid-spec =
@@ -65,9 +61,9 @@ is-valid-spec =
     slice-aggregate-add-pairs-2
     add-pairs-requires
     returns
-    opening-requires
-    wide-requires
     add-shares-requires
+    opening-requires
+    covers-requires
     returns-2
     slice-aggregate-is-balanced
     slice-aggregate-is-balanced-2
