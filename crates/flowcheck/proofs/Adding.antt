@@ -6,7 +6,7 @@ use mathlib.Core.Path.{_≡_, sym, ap, ap₂, _∙_}
 use lib.Dec.{eqb}
 use lib.ListN.{length, getD, set, replicate, length-set, length-replicate}
 use Rattle.finite.specs.Row.{zeros, raised-at}
-use Rattle.finite.specs.Sum.{on, sum, atEnd, on-le, sum-start, sum-more, end-start, end-more}
+use Rattle.finite.specs.Sum.{on, atEnd, on-le, sum-start, sum-more, end-start, end-more}
 use Rattle.plan.specs.Net.{Plan}
 use Rattle.plan.specs.Flow.{Flow}
 use Rattle.flowcheck.specs.Sums.{Sums, Carried, sharesOf}

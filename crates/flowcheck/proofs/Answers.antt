@@ -11,7 +11,6 @@ use Rattle.sheet.specs.Items.{netOf, planOf}
 use Rattle.sheet.specs.Faults.{faultOf}
 use Rattle.calls.specs.Call.{placeFault, sheet-first, no-place, a-place, lower-first, short-row, long-row}
 use Rattle.calls.specs.FlowRow.{flowLength, flowOf, flowFault}
-use Rattle.flowcheck.specs.declared.Checked.{Checked}
 use Rattle.flowcheck.specs.declared.Checked.the-variants.{Fault, Valid, Invalid}
 use Rattle.flowcheck.specs.Checked.{answer, checkedOf}
 

@@ -1,34 +1,26 @@
--- What each test says of the rules.
+-- What the tests at each pair and event, and of the shares, say of the four rules.
 use Prim.Native.Nat.{ℕ, _+_, _<_, _≤_}
-use native.Mathlib.Omega.{arith}
-use mathlib.Core.Bool.{Bool, true, false, not, _&&_, _||_, or-true, or-false, and-true, and-false}
+use mathlib.Core.Bool.{Bool, true, false, not, _&&_, _||_, and-true, and-false}
 use mathlib.Core.List.{List}
-use mathlib.Core.Path.{_≡_, refl, sym, ap, ap₂, _∙_}
-use borrow.Author.Tests.{eq-eqb, ne-eqb, le-leb, lt-leb, lt-ltb, le-ltb}
-use lib.Dec.{T, leb, eqb, leb→le, le→leb}
+use mathlib.Core.Logic.{_↔_}
+use mathlib.Core.Path.{_≡_, ap, ap₂, _∙_}
+use lib.Dec.{T, leb, eqb}
 use lib.ListN.{getD}
 use mir.Facts.{and-yes, yes-and}
 use Rattle.finite.specs.Bounded.{all, all-yes, yes-all, same}
 use Rattle.marks.specs.Marks.{meeting}
 use Rattle.plan.specs.Net.{Net, Plan, takenBy, givenBy}
 use Rattle.plan.specs.Order.{skeleton}
-use Rattle.plan.specs.Flow.{Flow, share, shares, inflow, outflow, rule1, rule2, rule3, rule4, valid}
-use Rattle.theory.specs.Duality.{Passes, rules-pass, passes-rules}
+use Rattle.plan.specs.Flow.{Flow, shares, inflow, outflow, rule1, rule2, rule3, rule4, valid}
+use Rattle.theory.specs.Duality.{rules-pass, passes-rules}
 use Rattle.sheet.specs.Table.{eventsOf, pairsOf}
 use Rattle.sheet.specs.Items.{earlierAt, laterAt, labelAt, takesAt, givesAt, openingAt, netOf, planOf}
 use Rattle.sheet.specs.Faultless.{Faultless}
 use Rattle.order.specs.Rows.{OrderRows}
 use Rattle.order.specs.Laws.{skeleton-marked}
 use Rattle.calls.specs.FlowRow.{flowOf}
-use Rattle.flowcheck.specs.Sums.{kept, sharesOf, Carried}
-
--- rule 4 at a pair that carries 0
-pub carries-none : (b : Bool) (x : ℕ) → x ≡ 0 → true ≡ (b || eqb x 0)
-carries-none b x e = sym (ap (λ (y : Bool). b || y) (eq-eqb x 0 e) ∙ or-true b)
-
--- and at one that carries some
-pub carries-some : (b r : Bool) (x : ℕ) → ¬ (x ≡ 0) → r ≡ b → r ≡ (b || eqb x 0)
-carries-some b r x n e = e ∙ sym (ap (λ (y : Bool). b || y) (ne-eqb x 0 n) ∙ or-false b)
+use Rattle.rules.specs.Kept.{kept, kept-holds}
+use Rattle.flowcheck.specs.Sums.{sharesOf, Carried}
 
 -- rule 4 at pair i
 abbrev pub rule4At : Plan → Flow → ℕ → Bool
@@ -41,42 +33,35 @@ rule4-told s known succ pred rows x i a b r l at-a at-b told =
     ∙ ap₂ (λ (y z : ℕ). not (meeting succ y pred z) || eqb (x i) 0) at-a at-b
     ∙ ap (λ (y : Bool). y || eqb (x i) 0) (skeleton-marked s known succ pred rows i l)
 
--- rule 1 fails
-pub kept-short : (taken given arrived left t : ℕ) → t ≡ taken → arrived < t → false ≡ kept taken given arrived left
-unfolding kept
-kept-short taken given arrived left t e l = simp (lt-leb taken arrived (omega arith))
-
--- rule 1 holds, and rule 2 decides
-pub kept-rest : (taken given arrived left t u g : ℕ) → t ≡ taken → u ≡ taken → g ≡ given → t ≤ arrived → leb (left + u) (arrived + g) ≡ kept taken given arrived left
-unfolding kept
-kept-rest taken given arrived left t u g e f h l = simp (le-leb taken arrived (omega arith), f, h)
-
 -- rules 1 and 2 at event v
 abbrev pub keptAt : Net → Plan → ℕ → Flow → ℕ → Bool
 keptAt N P p x v = kept (takenBy N P p v) (givenBy N P p v) (inflow P x v) (outflow P x v)
 
 pub kept-rules : (N : Net) (P : Plan) (p : ℕ) (x : Flow) → all (P .events) (keptAt N P p x) ≡ (rule1 N P p x && rule2 N P p x)
-unfolding kept
-kept-rules N P p x =
-    same
-    (all (P .events) (keptAt N P p x))
-    (rule1 N P p x && rule2 N P p x)
-    (λ t.
-    let both = passes-rules N P p x (record { fed = λ v l. leb→le (takenBy N P p v) (inflow P x v) (parts v (all-yes (P .events) (keptAt N P p x) t v l) .0); kept = λ v l. leb→le (outflow P x v + takenBy N P p v) (inflow P x v + givenBy N P p v) (parts v (all-yes (P .events) (keptAt N P p x) t v l) .1) }) in
-    yes-and (rule1 N P p x) (rule2 N P p x) (both .0) (both .1))
-    (λ t.
-    let both = and-yes (rule1 N P p x) (rule2 N P p x) t in
-    let passes = rules-pass N P p x (both .0) (both .1) in
-    yes-all (P .events) (keptAt N P p x) (λ v l. yes-and (leb (takenBy N P p v) (inflow P x v)) (leb (outflow P x v + takenBy N P p v) (inflow P x v + givenBy N P p v)) (le→leb (takenBy N P p v) (inflow P x v) (passes .fed v l)) (le→leb (outflow P x v + takenBy N P p v) (inflow P x v + givenBy N P p v) (passes .kept v l))))
+kept-rules N P p x = same (all (P .events) (keptAt N P p x)) (rule1 N P p x && rule2 N P p x) to from
   where
-    parts : (v : ℕ) → T (keptAt N P p x v) → T (leb (takenBy N P p v) (inflow P x v)) × T (leb (outflow P x v + takenBy N P p v) (inflow P x v + givenBy N P p v))
-    parts v t = and-yes (leb (takenBy N P p v) (inflow P x v)) (leb (outflow P x v + takenBy N P p v) (inflow P x v + givenBy N P p v)) t
+    at : (v : ℕ) → T (keptAt N P p x v) ↔ ((takenBy N P p v ≤ inflow P x v) × (outflow P x v + takenBy N P p v ≤ inflow P x v + givenBy N P p v))
+    at v = kept-holds (takenBy N P p v) (givenBy N P p v) (inflow P x v) (outflow P x v)
 
-pub kept-told : (N : Net) (P : Plan) (p : ℕ) (x : Flow) (v : ℕ) (into out : List ℕ) → Carried P x (P .pairs) into out → (taken given w : ℕ)
-    → taken ≡ takenBy N P p v → given ≡ givenBy N P p v → w ≡ share P x v
-    → kept taken given (w + getD into v 0) (getD out v 0) ≡ keptAt N P p x v
+    to : T (all (P .events) (keptAt N P p x)) → T (rule1 N P p x && rule2 N P p x)
+    to t =
+        let each = all-yes (P .events) (keptAt N P p x) t in
+        let both = passes-rules N P p x (record { fed = λ v l. at v .0 (each v l) .0; kept = λ v l. at v .0 (each v l) .1 }) in
+        yes-and (rule1 N P p x) (rule2 N P p x) (both .0) (both .1)
+
+    from : T (rule1 N P p x && rule2 N P p x) → T (all (P .events) (keptAt N P p x))
+    from t =
+        let both = and-yes (rule1 N P p x) (rule2 N P p x) t in
+        let passes = rules-pass N P p x (both .0) (both .1) in
+        yes-all (P .events) (keptAt N P p x) (λ v l. at v .1 (passes .fed v l, passes .kept v l))
+
+pub kept-told : (s : List ℕ) (p : ℕ) (row into out : List ℕ) (v : ℕ) → Carried (planOf s) (flowOf row) (pairsOf s) into out
+    → (pairs t taken given w : ℕ) (r : Bool) → pairs ≡ pairsOf s → t ≡ labelAt s v → taken ≡ takesAt s t p → given ≡ givesAt s t p
+    → w ≡ getD row (pairs + v) 0 → r ≡ kept taken given (w + getD into v 0) (getD out v 0)
+    → r ≡ keptAt (netOf s) (planOf s) p (flowOf row) v
 unfolding inflow outflow
-kept-told N P p x v into out g taken given w takes gives shared = simp (takes, gives, shared, g .arrive .value v, g .leave .value v)
+kept-told s p row into out v g pairs t taken given w r e name takes gives shared told =
+    told ∙ simp (takes, gives, name, shared, e, g .arrive .value v, g .leave .value v)
 
 pub rule3-told : (s : List ℕ) (p : ℕ) (row : List ℕ) (pairs events total o : ℕ) (r : Bool) → pairs ≡ pairsOf s → events ≡ eventsOf s
     → total ≡ sharesOf row pairs events → o ≡ openingAt s p → r ≡ leb total o → r ≡ rule3 (netOf s) (planOf s) p (flowOf row)

@@ -1,9 +1,7 @@
--- Sums of a flow row, at each event or over all of them, and what they have to be by rules 1 and 2.
+-- Sums of a flow row, at each event or over all of them.
 use Prim.Native.Nat.{ℕ, _+_, _*_, _≤_}
-use mathlib.Core.Bool.{Bool, _&&_}
 use mathlib.Core.List.{List}
 use mathlib.Core.Path.{_≡_}
-use lib.Dec.{leb}
 use lib.ListN.{length, getD}
 use Rattle.finite.specs.Sum.{sum, atEnd}
 use Rattle.plan.specs.Net.{Plan}
@@ -23,7 +21,3 @@ pub record Carried (P : Plan) (x : Flow) (m : ℕ) (into out : List ℕ) : Type 
 -- the first n shares, which stand after the numbers of the pairs
 unfoldable pub sharesOf : List ℕ → ℕ → ℕ → ℕ
 sharesOf row pairs n = sum n (λ v. getD row (pairs + v) 0)
-
--- Rules 1 and 2 at an event, without signs.
-unfoldable pub kept : ℕ → ℕ → ℕ → ℕ → Bool
-kept taken given arrived left = leb taken arrived && leb (left + taken) (arrived + given)

@@ -1,19 +1,16 @@
 // The flow check: whether a lent flow row is a valid compact tokenflow for one place of a sheet. The row is only read.
-ghost use Prim.Native.Nat.{_+_, _*_, _<_, _≤_};
-ghost use mathlib.Core.Bool.{true, not, _&&_, _||_};
+ghost use Prim.Native.Nat.{_+_, _<_, _≤_};
+ghost use mathlib.Core.Bool.{true, _&&_};
 ghost use mathlib.Core.Path.{_≡_};
-ghost use lib.Dec.{leb, eqb};
-ghost use lib.ListN.{length, getD, set, replicate};
-ghost use Rattle.marks.specs.Marks.{meeting, HasRow};
+ghost use lib.ListN.{length, replicate};
 ghost use Rattle.plan.specs.Flow.{rule1, rule2, rule4, valid};
 ghost use Rattle.sheet.specs.Table.{placesOf, transitionsOf, eventsOf, pairsOf};
 ghost use Rattle.sheet.specs.Items.{netOf, planOf};
 ghost use Rattle.sheet.specs.Faultless.{Faultless};
 ghost use Rattle.order.specs.Rows.{OrderRows};
 ghost use Rattle.calls.specs.FlowRow.{flowOf, flowLength};
-ghost use Rattle.flowcheck.specs.Sums.{Sums, Carried, sharesOf, kept};
+ghost use Rattle.flowcheck.specs.Sums.{Carried, sharesOf};
 ghost use Rattle.flowcheck.specs.Checked.{checkedOf};
-use closure::is_skeleton;
 use fault::examine;
 use layout::entry_count;
 use lookup::Event;
@@ -24,38 +21,16 @@ use lookup::label;
 use lookup::later;
 use lookup::opening;
 use lookup::takes;
+use rules::covers;
+use rules::keeps;
+use rules::may_carry;
+use rules::raise;
+use rules::wide;
 
 pub enum Checked {
     Fault(u32),
     Valid,
     Invalid,
-}
-
-fn wide(x: u32) -> u64
-    ensures { λ r. ⌜ (r ≡ x) × (r ≤ 4294967295) ⌝ }
-{
-    x as u64
-}
-
-// Adds x to the sum at v.
-fn raise(sums: &mut [u64], v: usize, x: u32)
-    requires { ⌜ v < length (now sums) ⌝ }
-    requires { ⌜ getD (now sums) v 0 + x < 18446744073709551616 ⌝ }
-    ensures { λ _. ⌜ now (sums .exit) ≡ set (now (sums .entry)) v (getD (now (sums .entry)) v 0 + x) ⌝ }
-{
-    sums[v] += wide(x);
-}
-
-// Rule 4 at one pair: whether it is a skeleton pair or carries 0.
-fn may_carry(succ: &[u32], pred: &[u32], a: usize, b: usize, x: u32) -> bool
-    requires { ⌜ HasRow (now succ) a ⌝ }
-    requires { ⌜ HasRow (now pred) b ⌝ }
-    ensures { λ r. ⌜ r ≡ (not (meeting (now (succ .entry)) a (now (pred .entry)) b) || eqb x 0) ⌝ }
-{
-    if x == 0 {
-        return true;
-    }
-    is_skeleton(succ, pred, a, b)
 }
 
 // Rule 4. Where it holds, `into` and `out` are what the pairs carry into each event and out of it.
@@ -103,24 +78,6 @@ fn add_shares(row: &[u32], pairs: usize, events: usize) -> u64
         total += wide(row[pairs + v]);
     }
     total
-}
-
-// Rule 3: whether the shares come to at most the opening count.
-fn covers(opening: u32, total: u64) -> bool
-    ensures { λ r. ⌜ r ≡ leb total opening ⌝ }
-{
-    total <= opening as u64
-}
-
-// Rules 1 and 2 at one event: it gets what it takes, and passes on no more than it has then.
-fn keeps(taken: u32, given: u32, arrived: u64, left: u64) -> bool
-    requires { ⌜ (arrived ≤ 4294967295 * 1025) × (left ≤ 4294967295 * 1025) ⌝ }
-    ensures { λ r. ⌜ r ≡ kept taken given arrived left ⌝ }
-{
-    if arrived < wide(taken) {
-        return false;
-    }
-    left + wide(taken) <= arrived + wide(given)
 }
 
 // Rules 1 and 2.

@@ -1,14 +1,14 @@
 -- Event after event: those so far keep rules 1 and 2.
-use Prim.Native.Nat.{ℕ, _+_, _*_, _<_, _≤_, _-_}
+use Prim.Native.Nat.{_+_, _*_, _<_, _≤_, _-_}
 use mathlib.Core.Bool.{true}
-use mathlib.Core.Path.{_≡_, sym, ap, _∙_}
+use mathlib.Core.Path.{_≡_, sym, _∙_}
 use borrow.Author.Tests.{not-true, not-false}
 use denote.Ref.{now}
 use lib.ListN.{length, getD}
 use Rattle.finite.specs.Bounded.{all}
 use Rattle.finite.specs.Search.{all-start, all-more, all-broken, all-done}
 use Rattle.sheet.specs.Table.{transitionsOf, eventsOf}
-use Rattle.sheet.specs.Items.{takesAt, givesAt, netOf, planOf}
+use Rattle.sheet.specs.Items.{netOf, planOf}
 use Rattle.calls.specs.FlowRow.{flowOf}
 use Rattle.flowcheck.proofs.Rules.{keptAt, kept-told, kept-rules}
 use borrow.Author.Needs.{needs}
@@ -91,9 +91,7 @@ keeps-requires c κs = (omega (arith, carried (c .before .before .before .before
 told : (c : tie.After-keeps Inv-loop μ-loop) → c .keeps .result ≡ keptAt (netOf (now (c .before .before .before .before .before .before .before .before .before .before .before .before .before .before .args .s))) (planOf (now (c .before .before .before .before .before .before .before .before .before .before .before .before .before .before .args .s))) (c .before .before .before .before .before .before .before .before .before .before .before .before .before .before .args .p .0) (flowOf (now (c .before .before .before .before .before .before .before .before .before .before .before .before .before .before .args .row))) (c .before .before .before .before .before .before .before .before .before .loop .v)
 told c =
     let s = c .before .before .before .before .before .before .before .before .before .before .before .before .before .before in
-    let t = c .before .before .before .before .before .before .before .label .ensures in
-    c .keeps .ensures
-    ∙ kept-told (netOf (now (s .args .s))) (planOf (now (s .args .s))) (s .args .p .0) (flowOf (now (s .args .row))) (c .before .before .before .before .before .before .before .before .before .loop .v) _ _ (s .pre .1 .1 .1 .1) _ _ _ (c .before .before .before .before .before .before .takes .ensures ∙ ap (λ (u : ℕ). takesAt (now (s .args .s)) u (s .args .p .0)) t) (c .before .before .before .before .before .gives .ensures ∙ ap (λ (u : ℕ). givesAt (now (s .args .s)) u (s .args .p .0)) t) (c .before .before .before .wide .ensures .0 ∙ ap (λ (m : ℕ). getD (now (s .args .row)) (m + c .before .before .before .before .before .before .before .before .before .loop .v) 0) (s .pre .1 .0 .3))
+    kept-told (now (s .args .s)) (s .args .p .0) (now (s .args .row)) _ _ (c .before .before .before .before .before .before .before .before .before .loop .v) (s .pre .1 .1 .1 .1) _ _ _ _ _ _ (s .pre .1 .0 .3) (c .before .before .before .before .before .before .before .label .ensures) (c .before .before .before .before .before .before .takes .ensures) (c .before .before .before .before .before .gives .ensures) (c .before .before .before .wide .ensures .0) (c .keeps .ensures)
 
 returns : tie.Need-returns Inv-loop μ-loop
 returns c = all-broken _ _ _ _ (c .before .before .before .before .before .before .before .before .before .before .before .before .before .before .before .pre .1 .0 .2) (c .before .before .before .before .before .before .before .before .before .loop-test .taken) (sym (told (c .before)) ∙ not-true _ (c .if1 .taken)) ∙ kept-rules _ _ _ _

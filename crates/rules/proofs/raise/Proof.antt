@@ -4,8 +4,8 @@ use mathlib.Core.Path.{ap}
 use denote.Ref.{now}
 use lib.ListN.{getD, set}
 use borrow.Author.Needs.{needs}
-use Rattle.flowcheck.proofs.raise.Statement.{statement}
-use Rattle.flowcheck.proofs.raise.Tie as tie
+use Rattle.rules.proofs.raise.Statement.{statement}
+use Rattle.rules.proofs.raise.Tie as tie
 
 wide-requires : tie.Need-wide-requires
 wide-requires c κs = search needs

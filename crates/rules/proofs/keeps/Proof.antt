@@ -1,9 +1,8 @@
 -- Rule 1, and then rule 2.
-use Rattle.flowcheck.proofs.Rules.{kept-short, kept-rest}
-use native.Mathlib.Omega.{arith}
+use Rattle.rules.proofs.Tests.{kept-short, kept-rest}
 use borrow.Author.Needs.{needs}
-use Rattle.flowcheck.proofs.keeps.Statement.{statement}
-use Rattle.flowcheck.proofs.keeps.Tie as tie
+use Rattle.rules.proofs.keeps.Statement.{statement}
+use Rattle.rules.proofs.keeps.Tie as tie
 
 wide-requires : tie.Need-wide-requires
 wide-requires c κs = search needs

@@ -1,11 +1,11 @@
 -- A pair that carries 0 may; any other has to be a skeleton pair.
-use Rattle.flowcheck.proofs.Rules.{carries-none, carries-some}
+use Rattle.rules.proofs.Tests.{carries-none, carries-some}
 use mathlib.Core.Bool.{not}
 use denote.Ref.{now}
 use Rattle.marks.specs.Marks.{meeting}
 use borrow.Author.Needs.{needs}
-use Rattle.flowcheck.proofs.may_carry.Statement.{statement}
-use Rattle.flowcheck.proofs.may_carry.Tie as tie
+use Rattle.rules.proofs.may_carry.Statement.{statement}
+use Rattle.rules.proofs.may_carry.Tie as tie
 
 returns : tie.Need-returns
 returns c = let a = c .before .before .before .args in carries-none (not (meeting (now (a .succ)) (a .a) (now (a .pred)) (a .b))) _ (c .if1 .taken)
