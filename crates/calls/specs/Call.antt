@@ -1,7 +1,7 @@
 -- The fault of a call. Document 01, "Faults of a call": the sheet's own, 1 to 11, then 12 and 13. 0 says that there is none.
 use Prim.Native.Nat.{ℕ, zero, suc, _<_, _≤_}
 use mathlib.Core.Bool.{Bool, true, false, cond}
-use mathlib.Core.List.{List}
+use mathlib.Core.List.{List, [], _∷_}
 use mathlib.Core.Path.{_≡_, refl}
 use native.Mathlib.Omega.{arith}
 use borrow.Author.Tests.{le-leb, lt-leb, leb-false, lt-ltb, le-ltb, ltb-false}
@@ -80,3 +80,11 @@ module _ (lower : ℕ) (row : List ℕ) (needed : ℕ) where
   row-known e =
       let both = told-none lower (ltb (length row) needed) 13 (omega arith) e in
       (both .0, ltb-false (length row) needed (both .1))
+
+-- The table's small examples, each beside what is right: place 3 of three, and 2 numbers for three places.
+example-12 : (s : List ℕ) → faultOf s ≡ 0 → placesOf s ≡ 3 → (placeFault s 3 ≡ 12) × (placeFault s 2 ≡ 0)
+example-12 s none three = (no-place s 3 none (omega arith), a-place s 2 none (omega arith))
+
+example-13 : (a b c : ℕ) → (rowFault 0 (a ∷ b ∷ []) 3 ≡ 13) × (rowFault 0 (a ∷ b ∷ c ∷ []) 3 ≡ 0)
+unfolding rowFault nextFault
+example-13 a b c = (refl, refl)

@@ -153,7 +153,7 @@ fn is_valid(
     is_balanced(s, places, transitions, events, pairs, p, row, &into, &out)
 }
 
-// The flow check.
+// The flow check: Valid exactly if the row is valid. Any numbers may stand in it.
 pub fn check_flow(s: &[u8], p: Place, row: &[u32]) -> Checked
     ensures { λ r. ⌜ r ≡ checkedOf (now (s .entry)) (p .0) (now (row .entry)) ⌝ }
 {

@@ -8,6 +8,7 @@ ghost use Rattle.marks.specs.Marks.{meeting, HasRow};
 ghost use Rattle.rules.specs.Kept.{kept};
 use closure::is_skeleton;
 
+// A number of the row, as wide as a sum.
 pub fn wide(x: u32) -> u64
     ensures { λ r. ⌜ (r ≡ x) × (r ≤ 4294967295) ⌝ }
 {
@@ -42,7 +43,8 @@ pub fn covers(opening: u32, total: u64) -> bool
     total <= opening as u64
 }
 
-// Rules 1 and 2 at one event: it gets what it takes, and passes on no more than it has then.
+// Rules 1 and 2 at one event: it gets what it takes, and passes on no more than it has then. What arrives is a share and what
+// at most 1,024 pairs carry.
 pub fn keeps(taken: u32, given: u32, arrived: u64, left: u64) -> bool
     requires { ⌜ (arrived ≤ 4294967295 * 1025) × (left ≤ 4294967295 * 1025) ⌝ }
     ensures { λ r. ⌜ r ≡ kept taken given arrived left ⌝ }
