@@ -3,6 +3,7 @@ use Prim.Native.Nat.{ℕ, zero, suc, _+_, _≤_, _<_}
 use native.Mathlib.Nat.{le-step, lt-suc-self, not-suc-le-zero, le-refl, add-zero, zero-add, lt-irrefl, lt-of-lt-of-le, eq-or-lt-of-le}
 use mathlib.Core.List.{List}
 use mathlib.Core.Logic.{⊎-elim}
+use native.Mathlib.Numerals.{add-one}
 use native.Mathlib.Omega.{arith}
 use mathlib.Core.Bool.{Bool, true, false, _||_}
 use mathlib.Core.Path.{_≡_, refl, sym, ap, ap₂, subst, _∙_}
@@ -168,3 +169,20 @@ on-sum false n f = sym (sum-zero n (λ i. 0) (λ i l. refl))
 -- the sum of the first n numbers of a list
 unfoldable pub sumOf : List ℕ → ℕ → ℕ
 sumOf xs n = sum n (λ i. getD xs i 0)
+
+-- What a loop knows that adds one term after another.
+pub sum-start : (f : ℕ → ℕ) → sum 0 f ≡ 0
+unfolding sum
+sum-start f = refl
+
+pub sum-more : (n : ℕ) (f : ℕ → ℕ) → sum (n + 1) f ≡ sum n f + f n
+unfolding sum
+sum-more n f = rw add-one refl
+
+pub end-start : (e x : ℕ → ℕ) (v : ℕ) → atEnd 0 e x v ≡ 0
+unfolding atEnd
+end-start e x v = sum-start _
+
+pub end-more : (m : ℕ) (e x : ℕ → ℕ) (v : ℕ) → atEnd (m + 1) e x v ≡ atEnd m e x v + on (eqb (e m) v) (x m)
+unfolding atEnd
+end-more m e x v = sum-more m _

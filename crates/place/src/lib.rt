@@ -8,14 +8,22 @@ ghost use Rattle.sheet.specs.Items.{takesAt, givesAt, labelAt, netOf, planOf};
 ghost use Rattle.sheet.specs.Faultless.{Faultless};
 ghost use Rattle.plan.specs.Net.{takenBy, givenBy};
 ghost use Rattle.place.specs.Filled.{Filled, Small};
+use lookup::Event;
+use lookup::Place;
 use lookup::gives;
 use lookup::label;
 use lookup::takes;
-use lookup::Event;
-use lookup::Place;
 
 // What the event v gives to the place and takes from it, written at v.
-fn fill_event(s: &[u8], places: usize, transitions: usize, p: Place, v: usize, free: &mut [u32], share: &mut [u32])
+fn fill_event(
+    s: &[u8],
+    places: usize,
+    transitions: usize,
+    p: Place,
+    v: usize,
+    free: &mut [u32],
+    share: &mut [u32],
+)
     requires { ⌜ Faultless (now s) ⌝ }
     requires { ⌜ (places ≡ placesOf (now s)) × (transitions ≡ transitionsOf (now s)) ⌝ }
     requires { ⌜ (p .0 < places) × (v < eventsOf (now s)) ⌝ }
@@ -29,7 +37,15 @@ fn fill_event(s: &[u8], places: usize, transitions: usize, p: Place, v: usize, f
 }
 
 // What each event gives to the place and takes from it.
-fn fill(s: &[u8], places: usize, transitions: usize, n: usize, p: Place, free: &mut [u32], share: &mut [u32])
+fn fill(
+    s: &[u8],
+    places: usize,
+    transitions: usize,
+    n: usize,
+    p: Place,
+    free: &mut [u32],
+    share: &mut [u32],
+)
     requires { ⌜ Faultless (now s) ⌝ }
     requires { ⌜ (places ≡ placesOf (now s)) × (transitions ≡ transitionsOf (now s)) × (n ≡ eventsOf (now s)) ⌝ }
     requires { ⌜ p .0 < places ⌝ }
