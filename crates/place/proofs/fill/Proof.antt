@@ -1,3 +1,12 @@
+-- `place::fill` meets its contract.
+use Prim.Native.Nat.{_+_, _-_, _≤_, zero-le}
+use native.Mathlib.Omega.{arith}
+use mathlib.Core.Path.{sym, subst}
+use borrow.Author.Needs.{needs}
+use Rattle.plan.specs.Net.{takenBy, givenBy}
+use Rattle.sheet.specs.Items.{netOf, planOf}
+use Rattle.place.specs.Filled.{Filled}
+use Rattle.place.proofs.Rows.{filled-none, filled-more}
 use Rattle.place.proofs.fill.Statement.{statement}
 use Rattle.place.proofs.fill.Tie as tie
 use Rattle.place.proofs.fill.Reads as reads
@@ -5,42 +14,64 @@ use Rattle.place.proofs.fill.Lts as lts
 use Rattle.place.proofs.fill_event.Reads as fill-event-reads
 
 abbrev Inv-loop : tie.InvT-loop
-Inv-loop s places transitions n p free₀ share₀ v₀ free share v = ?
+Inv-loop s places transitions n p free₀ share₀ v₀ free share v = 
+    (v ≤ n) × Filled (givenBy (netOf s) (planOf s) (p .0)) v free₀ free × Filled (takenBy (netOf s) (planOf s) (p .0)) v share₀ share
 
 abbrev μ-loop : tie.MeasureT-loop
-μ-loop s places transitions n p free₀ share₀ v₀ free share v = ?
+μ-loop s places transitions n p free₀ share₀ v₀ free share v = n - v
 
--- src/lib.rt:40:5
 loop-holds : tie.Need-loop-holds Inv-loop μ-loop
-loop-holds c = ?
+loop-holds c = (zero-le, filled-none _ _, filled-none _ _)
 
--- src/lib.rt:41:9
 fill-event-requires : tie.Need-fill-event-requires Inv-loop μ-loop
-fill-event-requires c κs = ?
+fill-event-requires c κs =
+    let s = c .before .before .before .before .before .before .before in
+    let l = c .before .before .before .loop in
+    let r = s .pre .1 .1 .1 in
+    (
+      s .pre .0,
+      (
+        (s .pre .1 .0 .0, s .pre .1 .0 .1),
+        (
+          (s .pre .1 .1 .0, omega (arith, s .pre .1 .0 .2)),
+          (omega (arith, l .inv .1 .size, r .0, s .pre .1 .0 .2, s .pre .0 .laid .limited .events), omega (arith, l .inv .2 .size, r .1, s .pre .1 .0 .2, s .pre .0 .laid .limited .events)),
+        ),
+      ),
+    )
 
--- src/lib.rt:40:9
 add-v : tie.Need-add-v Inv-loop μ-loop
-add-v c = ?
+add-v c = search needs
 
--- src/lib.rt:40:5
 loop-less : tie.Need-loop-less Inv-loop μ-loop
-loop-less c = ?
+loop-less c = search needs
 
--- src/lib.rt:40:5
 loop-again : tie.Need-loop-again Inv-loop μ-loop
-loop-again c = ?
+loop-again c =
+    let s = c .before .before .before .before .before .before .before .before .before .before .before .before in
+    let a = s .args in
+    let l = c .before .before .before .before .before .before .before .before .loop in
+    let e = c .before .before .before .before .fill-event .ensures in
+    let r = s .pre .1 .1 .1 in
+    let few = s .pre .0 .laid .limited .events in
+    (
+      omega arith,
+      subst (Filled (givenBy (netOf (a .s .now)) (planOf (a .s .now)) (a .p .0)) (l .v + 1) (a .free .now)) (sym (e .0)) (filled-more _ (l .v) (a .free .now) (l .free) (omega (arith, l .inv .1 .size, r .0, s .pre .1 .0 .2, few)) (l .inv .1)),
+      subst (Filled (takenBy (netOf (a .s .now)) (planOf (a .s .now)) (a .p .0)) (l .v + 1) (a .share .now)) (sym (e .1)) (filled-more _ (l .v) (a .share .now) (l .share) (omega (arith, l .inv .2 .size, r .1, s .pre .1 .0 .2, few)) (l .inv .2)),
+    )
 
--- src/lib.rt:32:1
 same-length : tie.Need-same-length Inv-loop μ-loop
-same-length c = ?
+same-length c = c .before .loop .inv .1 .size
 
--- src/lib.rt:32:1
 same-length-2 : tie.Need-same-length-2 Inv-loop μ-loop
-same-length-2 c = ?
+same-length-2 c = c .before .loop .inv .2 .size
 
--- src/lib.rt:32:1
 returns : tie.Need-returns Inv-loop μ-loop
-returns c = ?
+returns c =
+    let l = c .before .loop in
+    (
+      record { size = l .inv .1 .size; numbers = λ i h. l .inv .1 .numbers i (omega arith) },
+      record { size = l .inv .2 .size; numbers = λ i h. l .inv .2 .numbers i (omega arith) },
+    )
 
 pub fill-spec : {M : Type 1} → statement M
 fill-spec =

@@ -1,4 +1,10 @@
+-- `place::fill_event` meets its contract.
+use Prim.Native.Nat.{ℕ}
+use native.Mathlib.Omega.{arith}
+use mathlib.Core.Path.{ap, _∙_}
 use borrow.Author.Needs.{needs}
+use lib.ListN.{set}
+use Rattle.sheet.specs.Items.{takesAt, givesAt}
 use Rattle.place.proofs.fill_event.Statement.{statement}
 use Rattle.place.proofs.fill_event.Tie as tie
 use Rattle.place.proofs.fill_event.Reads as reads
@@ -7,45 +13,45 @@ use Rattle.lookup.proofs.gives.Reads as gives-reads
 use Rattle.lookup.proofs.label.Reads as label-reads
 use Rattle.lookup.proofs.takes.Reads as takes-reads
 
--- src/lib.rt:26:9
 label-requires : tie.Need-label-requires
 label-requires c κs = search needs
 
--- src/lib.rt:27:15
 gives-requires : tie.Need-gives-requires
-gives-requires c κs = ?
+gives-requires c κs =
+    let s = c .before .before .before .before in
+    (s .pre .0 .laid, (s .pre .1 .0 .0, (omega (arith, c .label .ensures, s .pre .0 .labels (s .args .v) (s .pre .1 .1 .0 .1)), s .pre .1 .1 .0 .0)))
 
--- src/lib.rt:27:5
 mul-free : tie.Need-mul-free
 mul-free c = search needs
 
--- src/lib.rt:27:5
 slice-write-free : tie.Need-slice-write-free
 slice-write-free c = search needs
 
--- src/lib.rt:28:16
 takes-requires : tie.Need-takes-requires
-takes-requires c κs = ?
+takes-requires c κs =
+    let s = c .before .before .before .before .before in
+    (s .pre .0 .laid, (s .pre .1 .0 .0, (omega (arith, c .before .label .ensures, s .pre .0 .labels (s .args .v) (s .pre .1 .1 .0 .1)), s .pre .1 .1 .0 .0)))
 
--- src/lib.rt:28:5
 mul-share : tie.Need-mul-share
 mul-share c = search needs
 
--- src/lib.rt:28:5
 slice-write-share : tie.Need-slice-write-share
 slice-write-share c = search needs
 
--- src/lib.rt:18:1
 same-length : tie.Need-same-length
 same-length c = search needs
 
--- src/lib.rt:18:1
 same-length-2 : tie.Need-same-length-2
 same-length-2 c = search needs
 
--- src/lib.rt:18:1
 returns : tie.Need-returns
-returns c = ?
+returns c =
+    let a = c .before .before .before .before .before .before .args in
+    let t = c .before .before .label .ensures in
+    (
+      ap (set (a .free .now) (a .v)) (c .before .gives .ensures ∙ ap (λ (t : ℕ). givesAt (a .s .now) t (a .p .0)) t),
+      ap (set (a .share .now) (a .v)) (c .takes .ensures ∙ ap (λ (t : ℕ). takesAt (a .s .now) t (a .p .0)) t),
+    )
 
 pub fill-event-spec : {M : Type 1} → statement M
 fill-event-spec =

@@ -1,45 +1,46 @@
+-- `place::put_words` meets its contract.
+use Prim.Native.Nat.{_-_, _≤_, zero-le}
+use native.Mathlib.Omega.{arith}
+use borrow.Author.Needs.{needs}
+use Rattle.place.specs.Filled.{Filled}
+use Rattle.place.proofs.Rows.{filled-none, filled-more}
 use Rattle.place.proofs.put_words.Statement.{statement}
 use Rattle.place.proofs.put_words.Tie as tie
 use Rattle.place.proofs.put_words.Reads as reads
 use Rattle.place.proofs.put_words.Lts as lts
 
 abbrev Inv-loop : tie.InvT-loop
-Inv-loop rows₀ count x i₀ rows i = ?
+Inv-loop rows₀ count x i₀ rows i = (i ≤ count) × Filled (λ k. x) i rows₀ rows
 
 abbrev μ-loop : tie.MeasureT-loop
-μ-loop rows₀ count x i₀ rows i = ?
+μ-loop rows₀ count x i₀ rows i = count - i
 
--- src/lib.rt:50:5
 loop-holds : tie.Need-loop-holds Inv-loop μ-loop
-loop-holds c = ?
+loop-holds c = (zero-le, filled-none _ _)
 
--- src/lib.rt:51:9
 mul-rows : tie.Need-mul-rows Inv-loop μ-loop
-mul-rows c = ?
+mul-rows c = search needs
 
--- src/lib.rt:51:9
 slice-write-rows : tie.Need-slice-write-rows Inv-loop μ-loop
-slice-write-rows c = ?
+slice-write-rows c = omega (arith, c .before .loop .inv .1 .size, c .before .before .pre)
 
--- src/lib.rt:50:9
 add-i : tie.Need-add-i Inv-loop μ-loop
-add-i c = ?
+add-i c = search needs
 
--- src/lib.rt:50:5
 loop-less : tie.Need-loop-less Inv-loop μ-loop
-loop-less c = ?
+loop-less c = search needs
 
--- src/lib.rt:50:5
 loop-again : tie.Need-loop-again Inv-loop μ-loop
-loop-again c = ?
+loop-again c =
+    let a = c .before .before .args in
+    let l = c .before .loop in
+    (omega arith, filled-more (λ k. a .x) (l .i) (a .rows .now) (l .rows) (omega (arith, l .inv .1 .size, c .before .before .pre)) (l .inv .1))
 
--- src/lib.rt:46:1
 same-length : tie.Need-same-length Inv-loop μ-loop
-same-length c = ?
+same-length c = c .before .loop .inv .1 .size
 
--- src/lib.rt:46:1
 returns : tie.Need-returns Inv-loop μ-loop
-returns c = ?
+returns c = let l = c .before .loop in record { size = l .inv .1 .size; numbers = λ i h. l .inv .1 .numbers i (omega arith) }
 
 pub put-words-spec : {M : Type 1} → statement M
 put-words-spec =

@@ -1,45 +1,47 @@
+-- `place::total` meets its contract.
+use Prim.Native.Nat.{_-_, _*_, _≤_, zero-le}
+use native.Mathlib.Omega.{arith}
+use mathlib.Core.Path.{_≡_, sym, ap, _∙_}
+use borrow.Author.Needs.{needs}
+use Rattle.finite.specs.Sum.{sumOf}
+use Rattle.place.proofs.Rows.{sum-none, sum-one-more}
 use Rattle.place.proofs.total.Statement.{statement}
 use Rattle.place.proofs.total.Tie as tie
 use Rattle.place.proofs.total.Reads as reads
 use Rattle.place.proofs.total.Lts as lts
 
 abbrev Inv-loop : tie.InvT-loop
-Inv-loop row n sum₀ i₀ sum i = ?
+Inv-loop row n sum₀ i₀ sum i = (i ≤ n) × (sum ≡ sumOf row i) × (sum ≤ 1000 * i)
 
 abbrev μ-loop : tie.MeasureT-loop
-μ-loop row n sum₀ i₀ sum i = ?
+μ-loop row n sum₀ i₀ sum i = n - i
 
--- src/lib.rt:62:5
 loop-holds : tie.Need-loop-holds Inv-loop μ-loop
-loop-holds c = ?
+loop-holds c = (zero-le, sym (sum-none _), zero-le)
 
--- src/lib.rt:63:16
 mul-sum : tie.Need-mul-sum Inv-loop μ-loop
-mul-sum c = ?
+mul-sum c = search needs
 
--- src/lib.rt:63:16
 shared-slice-read-sum : tie.Need-shared-slice-read-sum Inv-loop μ-loop
-shared-slice-read-sum c = ?
+shared-slice-read-sum c = search needs
 
--- src/lib.rt:63:9
 add-sum : tie.Need-add-sum Inv-loop μ-loop
-add-sum c = ?
+add-sum c = let s = c .before .before .before in omega (arith, s .pre .0 .0, s .pre .1 .most (c .before .before .loop .i) (omega arith))
 
--- src/lib.rt:62:9
 add-i : tie.Need-add-i Inv-loop μ-loop
-add-i c = ?
+add-i c = search needs
 
--- src/lib.rt:62:5
 loop-less : tie.Need-loop-less Inv-loop μ-loop
-loop-less c = ?
+loop-less c = search needs
 
--- src/lib.rt:62:5
 loop-again : tie.Need-loop-again Inv-loop μ-loop
-loop-again c = ?
+loop-again c =
+    let s = c .before .before .before in
+    let l = c .before .before .loop in
+    (omega arith, omega (arith, l .inv .1, sum-one-more (s .args .row .now) (l .i)), omega (arith, s .pre .1 .most (l .i) (omega arith)))
 
--- src/lib.rt:56:1
 returns : tie.Need-returns Inv-loop μ-loop
-returns c = ?
+returns c = let l = c .before .loop in l .inv .1 ∙ ap (sumOf (c .before .before .args .row .now)) (omega arith)
 
 pub total-spec : {M : Type 1} → statement M
 total-spec =
