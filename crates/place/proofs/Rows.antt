@@ -1,12 +1,14 @@
 -- A row that is filled number by number.
-use Prim.Native.Nat.{ℕ, _+_, _*_, _≤_, _<_}
+use Prim.Native.Nat.{ℕ, _+_, _*_, _/_, _%_, _≤_, _<_}
 use native.Mathlib.Omega.{arith}
 use native.Mathlib.Numerals.{add-one}
 use mathlib.Core.List.{List}
-use mathlib.Core.Path.{_≡_, refl, sym, subst, _∙_}
+use mathlib.Core.Path.{_≡_, refl, sym, ap, subst, _∙_}
 use lib.ListN.{length, getD, set, length-set}
 use lib.Seq.{getD-set-same, getD-set-other}
+use lib.Dec.{T}
 use Rattle.finite.specs.Bounded.{below-suc}
+use Rattle.marks.specs.Marks.{marked, bit, bit-none}
 use Rattle.finite.specs.Sum.{sum, sumOf, sum-more}
 use Rattle.place.specs.Filled.{Filled, Small}
 
@@ -33,3 +35,12 @@ sum-one-more row i = sum-more i (λ k. getD row k 0)
 pub sum-none : (row : List ℕ) → sumOf row 0 ≡ 0
 unfolding sumOf sum
 sum-none row = refl
+
+-- words of 0 have no mark
+pub unfed : (old fed : List ℕ) → Filled (λ i. 0) 2048 old fed → (u w : ℕ) → u < 256 → w < 256 → T (marked fed u w) → ⊥
+unfolding marked
+unfed old fed h u w lu lw t =
+    subst
+    T
+    (ap (λ (x : ℕ). bit x (w % 32)) (h .numbers (u * 8 + w / 32) (omega arith)) ∙ bit-none (w % 32))
+    t

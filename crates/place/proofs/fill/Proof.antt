@@ -9,12 +9,9 @@ use Rattle.place.specs.Filled.{Filled}
 use Rattle.place.proofs.Rows.{filled-none, filled-more}
 use Rattle.place.proofs.fill.Statement.{statement}
 use Rattle.place.proofs.fill.Tie as tie
-use Rattle.place.proofs.fill.Reads as reads
-use Rattle.place.proofs.fill.Lts as lts
-use Rattle.place.proofs.fill_event.Reads as fill-event-reads
 
 abbrev Inv-loop : tie.InvT-loop
-Inv-loop s places transitions n p free₀ share₀ v₀ free share v = 
+Inv-loop s places transitions n p free₀ share₀ v₀ free share v =
     (v ≤ n) × Filled (givenBy (netOf s) (planOf s) (p .0)) v free₀ free × Filled (takenBy (netOf s) (planOf s) (p .0)) v share₀ share
 
 abbrev μ-loop : tie.MeasureT-loop
@@ -27,8 +24,7 @@ fill-event-requires : tie.Need-fill-event-requires Inv-loop μ-loop
 fill-event-requires c κs =
     let s = c .before .before .before .before .before .before .before in
     let l = c .before .before .before .loop in
-    let r = s .pre .1 .1 .1 in
-    (
+    let r = s .pre .1 .1 .1 in (
       s .pre .0,
       (
         (s .pre .1 .0 .0, s .pre .1 .0 .1),
@@ -52,8 +48,7 @@ loop-again c =
     let l = c .before .before .before .before .before .before .before .before .loop in
     let e = c .before .before .before .before .fill-event .ensures in
     let r = s .pre .1 .1 .1 in
-    let few = s .pre .0 .laid .limited .events in
-    (
+    let few = s .pre .0 .laid .limited .events in (
       omega arith,
       subst (Filled (givenBy (netOf (a .s .now)) (planOf (a .s .now)) (a .p .0)) (l .v + 1) (a .free .now)) (sym (e .0)) (filled-more _ (l .v) (a .free .now) (l .free) (omega (arith, l .inv .1 .size, r .0, s .pre .1 .0 .2, few)) (l .inv .1)),
       subst (Filled (takenBy (netOf (a .s .now)) (planOf (a .s .now)) (a .p .0)) (l .v + 1) (a .share .now)) (sym (e .1)) (filled-more _ (l .v) (a .share .now) (l .share) (omega (arith, l .inv .2 .size, r .1, s .pre .1 .0 .2, few)) (l .inv .2)),
@@ -67,8 +62,7 @@ same-length-2 c = c .before .loop .inv .2 .size
 
 returns : tie.Need-returns Inv-loop μ-loop
 returns c =
-    let l = c .before .loop in
-    (
+    let l = c .before .loop in (
       record { size = l .inv .1 .size; numbers = λ i h. l .inv .1 .numbers i (omega arith) },
       record { size = l .inv .2 .size; numbers = λ i h. l .inv .2 .numbers i (omega arith) },
     )

@@ -7,11 +7,6 @@ use lib.ListN.{set}
 use Rattle.sheet.specs.Items.{takesAt, givesAt}
 use Rattle.place.proofs.fill_event.Statement.{statement}
 use Rattle.place.proofs.fill_event.Tie as tie
-use Rattle.place.proofs.fill_event.Reads as reads
-use Rattle.place.proofs.fill_event.Lts as lts
-use Rattle.lookup.proofs.gives.Reads as gives-reads
-use Rattle.lookup.proofs.label.Reads as label-reads
-use Rattle.lookup.proofs.takes.Reads as takes-reads
 
 label-requires : tie.Need-label-requires
 label-requires c κs = search needs
@@ -47,8 +42,7 @@ same-length-2 c = search needs
 returns : tie.Need-returns
 returns c =
     let a = c .before .before .before .before .before .before .args in
-    let t = c .before .before .label .ensures in
-    (
+    let t = c .before .before .label .ensures in (
       ap (set (a .free .now) (a .v)) (c .before .gives .ensures ∙ ap (λ (t : ℕ). givesAt (a .s .now) t (a .p .0)) t),
       ap (set (a .share .now) (a .v)) (c .takes .ensures ∙ ap (λ (t : ℕ). takesAt (a .s .now) t (a .p .0)) t),
     )

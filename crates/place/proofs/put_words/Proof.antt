@@ -6,8 +6,6 @@ use Rattle.place.specs.Filled.{Filled}
 use Rattle.place.proofs.Rows.{filled-none, filled-more}
 use Rattle.place.proofs.put_words.Statement.{statement}
 use Rattle.place.proofs.put_words.Tie as tie
-use Rattle.place.proofs.put_words.Reads as reads
-use Rattle.place.proofs.put_words.Lts as lts
 
 abbrev Inv-loop : tie.InvT-loop
 Inv-loop rows₀ count x i₀ rows i = (i ≤ count) × Filled (λ k. x) i rows₀ rows

@@ -7,8 +7,6 @@ use Rattle.finite.specs.Sum.{sumOf}
 use Rattle.place.proofs.Rows.{sum-none, sum-one-more}
 use Rattle.place.proofs.total.Statement.{statement}
 use Rattle.place.proofs.total.Tie as tie
-use Rattle.place.proofs.total.Reads as reads
-use Rattle.place.proofs.total.Lts as lts
 
 abbrev Inv-loop : tie.InvT-loop
 Inv-loop row n sum₀ i₀ sum i = (i ≤ n) × (sum ≡ sumOf row i) × (sum ≤ 1000 * i)
