@@ -1,0 +1,2 @@
+mod Links
+mod Walks

@@ -1,0 +1,5 @@
+pub mod Folded
+pub mod Carried
+pub mod Filling
+pub mod Linked
+pub mod Feeding
