@@ -1,2 +1,4 @@
 mod Links
 mod Walks
+mod Turns
+mod Stores

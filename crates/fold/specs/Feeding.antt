@@ -14,6 +14,7 @@ use Rattle.order.specs.Rows.{OrderRows}
 use Rattle.tokenflow.specs.Rows.{Rows, fedBy}
 use Rattle.tokenflow.specs.Flowing.{Flowing}
 use Rattle.fold.specs.Filling.{total}
+use Rattle.fold.specs.Linked.{Walkable}
 
 -- the number at i of a row
 abbrev pub numbersOf : List ℕ → ℕ → ℕ
@@ -24,6 +25,13 @@ pub record Feeding (P : Plan) (amount fed : List ℕ) : Type 0 where
   pub marks : HasRows fed 256
   pub ordered : (u w : ℕ) → u < P .events → w < P .events → T (marked fed u w) → Before P u w
   pub fits : total (P .events) (fedBy amount fed) < 4294967296
+
+-- All that a fold needs to know of a plan with n events and m pairs, and of its rows.
+pub record Foldable (P : Plan) (n m : ℕ) (succ skel index amount fed : List ℕ) : Type 0 where
+  pub events : P .events ≡ n
+  pub pairs : P .pairs ≡ m
+  pub way : Walkable P succ skel index
+  pub feeds : Feeding P amount fed
 
 -- the tokens of at most 1,000 to a giver
 pub total-most : (n : ℕ) (y : ℕ → ℕ → ℕ) → ((u : ℕ) → u < n → sum n (λ w. y u w) ≤ 1000) → total n y ≤ n * 1000

@@ -3,3 +3,4 @@ pub mod Carried
 pub mod Filling
 pub mod Linked
 pub mod Feeding
+pub mod Written

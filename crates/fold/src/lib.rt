@@ -1,8 +1,7 @@
 // A tokenflow on "before", folded onto the skeleton pairs: the compact tokenflow (003, theorem 2) in a lent row.
-ghost use Prim.Native.Nat.{ℕ, _+_, _<_, _≤_};
-ghost use mathlib.Core.List.{_++_};
+ghost use Prim.Native.Nat.{ℕ, _+_, _*_, _<_, _≤_};
 ghost use mathlib.Core.Path.{_≡_};
-ghost use lib.ListN.{length, getD, take, drop, replicate};
+ghost use lib.ListN.{length, getD};
 ghost use Rattle.plan.specs.Net.{Plan};
 ghost use Rattle.plan.specs.Order.{Before};
 ghost use Rattle.sheet.specs.Table.{placesOf, transitionsOf, eventsOf, pairsOf};
@@ -14,7 +13,8 @@ ghost use Rattle.fold.specs.Folded.{Folded};
 ghost use Rattle.fold.specs.Carried.{Carried};
 ghost use Rattle.fold.specs.Filling.{Filled};
 ghost use Rattle.fold.specs.Linked.{Linked, Walkable, StepBack};
-ghost use Rattle.fold.specs.Feeding.{numbersOf, Feeding};
+ghost use Rattle.fold.specs.Written.{Zeros, SharesWritten};
+ghost use Rattle.fold.specs.Feeding.{numbersOf, Foldable};
 use closure::is_skeleton;
 use lookup::earlier;
 use lookup::later;
@@ -79,5 +79,82 @@ fn trace(succ: &[u32], skel: &[u32], index: &[usize], row: &mut [u32], u: usize,
         let i = index[v * 256 + cur];
         row[i] += k;
         cur = v;
+    }
+}
+
+// Folds all that u gives, where all that the givers below it give is folded.
+fn fold_giver(
+    succ: &[u32],
+    skel: &[u32],
+    index: &[usize],
+    amount: &[u32],
+    fed: &[u32],
+    row: &mut [u32],
+    u: usize,
+    n: usize,
+)
+    requires { ⌜ ((P : Plan) × Foldable P n (length (now row)) (now succ) (now skel) (now index) (now amount) (now fed) × Filled P (fedBy (now amount) (now fed)) (u * 256) (numbersOf (now row))) ⌝ }
+    requires { ⌜ u < n ⌝ }
+    ensures { λ _. ⌜ ((P : Plan) → Foldable P n (length (now (row .entry))) (now (succ .entry)) (now (skel .entry)) (now (index .entry)) (now (amount .entry)) (now (fed .entry)) → Filled P (fedBy (now (amount .entry)) (now (fed .entry))) (u * 256) (numbersOf (now (row .entry))) → Filled P (fedBy (now (amount .entry)) (now (fed .entry))) ((u + 1) * 256) (numbersOf (now (row .exit)))) ⌝ }
+{
+    for w in 0..n {
+        if is_marked(fed, u, w) {
+            let k = amount[u * 256 + w];
+            trace(succ, skel, index, row, u, w, k);
+        }
+    }
+}
+
+// Folds what each giver gives, from a row of zeros.
+fn fold_givers(
+    succ: &[u32],
+    skel: &[u32],
+    index: &[usize],
+    amount: &[u32],
+    fed: &[u32],
+    row: &mut [u32],
+    n: usize,
+)
+    requires { ⌜ ((P : Plan) × Foldable P n (length (now row)) (now succ) (now skel) (now index) (now amount) (now fed)) ⌝ }
+    requires { ⌜ Zeros (now row) (length (now row)) ⌝ }
+    ensures { λ _. ⌜ ((P : Plan) → Foldable P n (length (now (row .entry))) (now (succ .entry)) (now (skel .entry)) (now (index .entry)) (now (amount .entry)) (now (fed .entry)) → Folded P (fedBy (now (amount .entry)) (now (fed .entry))) (numbersOf (now (row .exit)))) ⌝ }
+{
+    for u in 0..n {
+        fold_giver(succ, skel, index, amount, fed, row, u, n);
+    }
+}
+
+fn clear(row: &mut [u32])
+    ensures { λ _. ⌜ Zeros (now (row .exit)) (length (now (row .entry))) ⌝ }
+{
+    for i in 0..row.len() {
+        row[i] = 0;
+    }
+}
+
+// Folds a tokenflow onto the skeleton pairs: the row, one number for each pair, is written whole.
+pub fn fold(
+    succ: &[u32],
+    skel: &[u32],
+    index: &[usize],
+    amount: &[u32],
+    fed: &[u32],
+    row: &mut [u32],
+    n: usize,
+)
+    requires { ⌜ ((P : Plan) × Foldable P n (length (now row)) (now succ) (now skel) (now index) (now amount) (now fed)) ⌝ }
+    ensures { λ _. ⌜ ((P : Plan) → Foldable P n (length (now (row .entry))) (now (succ .entry)) (now (skel .entry)) (now (index .entry)) (now (amount .entry)) (now (fed .entry)) → Folded P (fedBy (now (amount .entry)) (now (fed .entry))) (numbersOf (now (row .exit)))) ⌝ }
+{
+    clear(row);
+    fold_givers(succ, skel, index, amount, fed, row, n);
+}
+
+// Writes the shares of n events. It is lent the part of a flow row that is theirs, and told nothing of the pairs.
+pub fn write_shares(part: &mut [u32], share: &[u32], n: usize)
+    requires { ⌜ (n ≤ length (now part)) × (n ≤ length (now share)) ⌝ }
+    ensures { λ _. ⌜ SharesWritten (now (part .entry)) (now (part .exit)) (now (share .entry)) n ⌝ }
+{
+    for v in 0..n {
+        part[v] = share[v];
     }
 }
