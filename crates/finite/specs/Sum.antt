@@ -172,11 +172,11 @@ at-end-more m e x z i k l more v =
     ∙ ap (λ (n : ℕ). sum m (λ j. on (eqb (e j) v) (x j)) + n) (sum-one m i (λ j. on (eqb (e j) v) k) l)
 
 -- k more at (u, w): in row u, and in column w
-pub row-more : (n u w k a : ℕ) (f : ℕ → ℕ) → w < n → sum n (λ b. f b + on (eqb u a) (on (eqb w b) k)) ≡ sum n f + on (eqb u a) k
-row-more n u w k a f l =
+pub sum-row-more : (n u w k a : ℕ) (f : ℕ → ℕ) → w < n → sum n (λ b. f b + on (eqb u a) (on (eqb w b) k)) ≡ sum n f + on (eqb u a) k
+sum-row-more n u w k a f l =
     sum-add n f (λ b. on (eqb u a) (on (eqb w b) k))
     ∙ ap (λ (z : ℕ). sum n f + z) (sym (on-sum (eqb u a) n (λ b. on (eqb w b) k)) ∙ ap (on (eqb u a)) (sum-one n w (λ b. k) l))
 
-pub column-more : (n u w k b : ℕ) (f : ℕ → ℕ) → u < n → sum n (λ a. f a + on (eqb u a) (on (eqb w b) k)) ≡ sum n f + on (eqb w b) k
-column-more n u w k b f l =
+pub sum-column-more : (n u w k b : ℕ) (f : ℕ → ℕ) → u < n → sum n (λ a. f a + on (eqb u a) (on (eqb w b) k)) ≡ sum n f + on (eqb w b) k
+sum-column-more n u w k b f l =
     sum-add n f (λ a. on (eqb u a) (on (eqb w b) k)) ∙ ap (λ (z : ℕ). sum n f + z) (sum-one n u (λ a. on (eqb w b) k) l)

@@ -2,3 +2,4 @@ mod Links
 mod Walks
 mod Turns
 mod Stores
+mod Parts

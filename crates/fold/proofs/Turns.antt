@@ -1,10 +1,10 @@
 -- The turn of a giver and a taker: the tokens that the one gives the other are carried, if there are any.
-use Prim.Native.Nat.{ℕ, _+_, _*_, _≤_, _<_}
+use Prim.Native.Nat.{ℕ, _+_, _*_, _<_}
 use native.Mathlib.Omega.{arith}
 use mathlib.Core.List.{List}
-use mathlib.Core.Path.{_≡_, refl, sym, ap, subst, _∙_}
+use mathlib.Core.Path.{_≡_, sym, subst}
 use lib.Dec.{T}
-use lib.ListN.{length, getD}
+use lib.ListN.{getD}
 use Rattle.finite.specs.Sum.{on-yes, on-no}
 use Rattle.plan.specs.Net.{Plan}
 use Rattle.plan.specs.Order.{Before}
@@ -13,8 +13,8 @@ use Rattle.tokenflow.specs.Rows.{fedBy}
 use Rattle.fold.specs.Folded.{Folded}
 use Rattle.fold.specs.Carried.{Carried}
 use Rattle.fold.specs.Filling.{Filled, filled-none, filled-skip, filled-giver, filled-all, filled-room, filled-more}
-use Rattle.fold.specs.Feeding.{numbersOf, Foldable}
-use Rattle.fold.specs.Written.{Zeros}
+use Rattle.fold.specs.Feeding.{Foldable}
+use Rattle.fold.specs.Written.{numbersOf, Zeros}
 
 module _ (P : Plan) (n m : ℕ) (succ skel index amount fed : List ℕ) (g : Foldable P n m succ skel index amount fed) (row : List ℕ) where
   -- before the first turn
@@ -29,10 +29,7 @@ module _ (P : Plan) (n m : ℕ) (succ skel index amount fed : List ℕ) (g : Fol
   -- after the turns of u
   pub fill-next : (u w : ℕ) → w ≡ n → Filled P (fedBy amount fed) (u * 256 + w) (numbersOf row) → Filled P (fedBy amount fed) ((u + 1) * 256) (numbersOf row)
   fill-next u w e f =
-      subst
-      (λ (t : ℕ). Filled P (fedBy amount fed) t (numbersOf row))
-      (omega arith)
-      (filled-giver P (g .way .few) (fedBy amount fed) (numbersOf row) u (subst (λ (t : ℕ). Filled P (fedBy amount fed) t (numbersOf row)) (omega (arith, g .events)) f))
+      filled-giver P (g .way .few) (fedBy amount fed) (numbersOf row) u (subst (λ (t : ℕ). Filled P (fedBy amount fed) t (numbersOf row)) (omega (arith, g .events)) f)
 
   module _ (u w : ℕ) (lu : u < n) (lw : w < n) (f : Filled P (fedBy amount fed) (u * 256 + w) (numbersOf row)) where
     giver : u < P .events

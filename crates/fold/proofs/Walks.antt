@@ -1,5 +1,5 @@
 -- The walk back from an event along skeleton pairs: a step exists, and steps lead nearer.
-use Prim.Native.Nat.{ℕ, _+_, _*_, _≤_, _<_}
+use Prim.Native.Nat.{ℕ, _+_, _*_, _<_}
 use native.Mathlib.Omega.{arith}
 use mathlib.Core.Bool.{Bool, _&&_, _||_}
 use mathlib.Core.List.{List}
@@ -12,13 +12,13 @@ use mir.Facts.{and-yes, yes-and, or-yes, yes-eqb, eqb-no}
 use Rattle.finite.specs.Bounded.{decide, yes-or-left, yes-or-right}
 use Rattle.finite.specs.Sum.{on, sum, sum-strict, on-mono, on-yes, on-no}
 use Rattle.plan.specs.Net.{Plan}
-use Rattle.plan.specs.Order.{Before, pair, chain, skeleton}
+use Rattle.plan.specs.Order.{Before, pair, chain}
 use Rattle.theory.specs.Skeleton.{before-earlier, before-later, last-link}
-use Rattle.marks.specs.Marks.{marked, HasRow}
+use Rattle.marks.specs.Marks.{marked}
 use Rattle.marks.specs.Search.{Both}
 use Rattle.fold.specs.Carried.{Carried, carried-none, carried-more}
-use Rattle.fold.specs.Linked.{IsLink, Linked, Walkable, StepBack}
-use Rattle.fold.specs.Feeding.{numbersOf}
+use Rattle.fold.specs.Linked.{IsLink, Walkable, StepBack}
+use Rattle.fold.specs.Written.{numbersOf}
 
 module _ (P : Plan) (succ skel index : List ℕ) (way : Walkable P succ skel index) where
   -- both ends are events
@@ -58,21 +58,21 @@ unfoldable pub steps : List ℕ → ℕ → ℕ → ℕ
 steps succ u cur = sum 256 (λ z. on (marked succ u z && (eqb z cur || marked succ z cur)) 1)
 
 module _ (P : Plan) (succ skel index : List ℕ) (way : Walkable P succ skel index) (u cur v : ℕ) (b : Before P u cur) (s : StepBack P index u cur v) where
-  upTo : ℕ → ℕ → Bool
-  upTo x z = marked succ u z && (eqb z x || marked succ z x)
+  onWay : ℕ → ℕ → Bool
+  onWay x z = marked succ u z && (eqb z x || marked succ z x)
 
-  is-up-to : (x z : ℕ) → x < P .events → z < 256 → T (upTo x z) → Before P u z × ((z ≡ x) ⊎ Before P z x)
-  unfolding upTo
-  is-up-to x z hx hz t =
+  is-on-way : (x z : ℕ) → x < P .events → z < 256 → T (onWay x z) → Before P u z × ((z ≡ x) ⊎ Before P z x)
+  unfolding onWay
+  is-on-way x z hx hz t =
       let both = and-yes (marked succ u z) (eqb z x || marked succ z x) t in
       let l = way .after .only u z hz (both .0) in (
         way .after .marks u z (before-earlier P (way .sound) b) l .0 (both .0),
         ⊎-elim (λ e. inl (eqb→eq z x e)) (λ m. inr (way .after .marks z x l hx .0 m)) (or-yes (eqb z x) (marked succ z x) (both .1)),
       )
 
-  yes-up-to : (x z : ℕ) → x < P .events → Before P u z → (z ≡ x) ⊎ Before P z x → T (upTo x z)
-  unfolding upTo
-  yes-up-to x z hx c h =
+  yes-on-way : (x z : ℕ) → x < P .events → Before P u z → (z ≡ x) ⊎ Before P z x → T (onWay x z)
+  unfolding onWay
+  yes-on-way x z hx c h =
       let l = before-later P (way .sound) c in
       yes-and
       (marked succ u z)
@@ -82,16 +82,16 @@ module _ (P : Plan) (succ skel index : List ℕ) (way : Walkable P succ skel ind
 
   -- a step back leaves fewer of them
   pub fewer : steps succ u v < steps succ u cur
-  unfolding steps upTo
+  unfolding steps onWay
   fewer =
       sum-strict
       256
-      (λ z. on (upTo v z) 1)
-      (λ z. on (upTo cur z) 1)
-      (λ z l. on-mono (upTo v z) (upTo cur z) 1 (λ t. let h = is-up-to v z early l t in yes-up-to cur z late (h .0) (inr (⊎-elim (λ e. subst (λ (y : ℕ). Before P y cur) (sym e) back) (λ d. chain d back) (h .1)))))
+      (λ z. on (onWay v z) 1)
+      (λ z. on (onWay cur z) 1)
+      (λ z l. on-mono (onWay v z) (onWay cur z) 1 (λ t. let h = is-on-way v z early l t in yes-on-way cur z late (h .0) (inr (⊎-elim (λ e. subst (λ (y : ℕ). Before P y cur) (sym e) back) (λ d. chain d back) (h .1)))))
       cur
       (omega (arith, late, way .few))
-      (omega (arith, on-yes (upTo cur cur) 1 (yes-up-to cur cur late b (inl refl)), on-no (upTo v cur) 1 (λ t. ⊎-elim (λ e. way .sound .acyclic cur (subst (λ (y : ℕ). Before P y cur) (sym e) back)) (λ d. way .sound .acyclic cur (chain d back)) (is-up-to v cur early (omega (arith, late, way .few)) t .1))))
+      (omega (arith, on-yes (onWay cur cur) 1 (yes-on-way cur cur late b (inl refl)), on-no (onWay v cur) 1 (λ t. ⊎-elim (λ e. way .sound .acyclic cur (subst (λ (y : ℕ). Before P y cur) (sym e) back)) (λ d. way .sound .acyclic cur (chain d back)) (is-on-way v cur early (omega (arith, late, way .few)) t .1))))
     where
       back : Before P v cur
       back = link-before P succ skel index way v cur (getD index (v * 256 + cur) 0) (s .link)

@@ -7,7 +7,7 @@ use mathlib.Core.Path.{_≡_, refl, sym, ap, subst, _∙_}
 use lib.Dec.{T, eqb, eqb→eq, T-not}
 use mir.Facts.{yes-eqb}
 use Rattle.finite.specs.Bounded.{decide}
-use Rattle.finite.specs.Sum.{on, sum, on-yes, on-no, on-le, on-swap, at-end-more, row-more, column-more}
+use Rattle.finite.specs.Sum.{on, on-yes, on-no, on-le, on-swap, at-end-more, sum-row-more, sum-column-more}
 use Rattle.plan.specs.Net.{Plan}
 use Rattle.plan.specs.Order.{Before, pair, chain, skeleton, Sound}
 use Rattle.plan.specs.Flow.{Flow}
@@ -78,8 +78,8 @@ carried-folds P y y′ x z u w k lu lw apart more f c =
     y′
     z
     (record {
-      balance = λ v l. omega (arith, f .balance v l, c .balance v, row-more (P .events) u w k v (y v) lw, column-more (P .events) u w k v (λ a. y a v) lu);
-      received = λ v l. omega (arith, f .received v l, c .arrives v, column-more (P .events) u w k v (λ a. y a v) lu, none v);
+      balance = λ v l. omega (arith, f .balance v l, c .balance v, sum-row-more (P .events) u w k v (y v) lw, sum-column-more (P .events) u w k v (λ a. y a v) lu);
+      received = λ v l. omega (arith, f .received v l, c .arrives v, sum-column-more (P .events) u w k v (λ a. y a v) lu, none v);
       bare = λ i l b. c .bare i l b ∙ f .bare i l b;
     })
     (λ a b ha hb. sym (more a b ha hb))

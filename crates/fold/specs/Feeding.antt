@@ -1,24 +1,24 @@
 -- Rows of tokens that can be folded: who feeds whom is ordered, and all the tokens fit a number.
-use Prim.Native.Nat.{ℕ, zero, suc, _+_, _*_, _≤_, _<_}
+use Prim.Native.Nat.{ℕ, zero, suc, _*_, _≤_, _<_}
 use native.Mathlib.Nat.{le-refl, le-step, lt-suc-self}
 use native.Mathlib.Omega.{arith}
 use mathlib.Core.List.{List}
-use mathlib.Core.Path.{_≡_}
+use mathlib.Core.Path.{_≡_, sym, subst}
 use lib.Dec.{T}
-use lib.ListN.{length, getD}
+use lib.ListN.{length}
 use Rattle.finite.specs.Sum.{sum}
 use Rattle.plan.specs.Net.{Plan}
 use Rattle.plan.specs.Order.{Before}
 use Rattle.marks.specs.Marks.{marked, HasRows}
 use Rattle.order.specs.Rows.{OrderRows}
+use Rattle.sheet.specs.Faultless.{Faultless}
+use Rattle.sheet.specs.Items.{labelAt, netOf, planOf}
+use Rattle.sheet.specs.Table.{placesOf, eventsOf, pairsOf}
+use Rattle.theory.specs.Tokenflow.{Tokenflow}
 use Rattle.tokenflow.specs.Rows.{Rows, fedBy}
 use Rattle.tokenflow.specs.Flowing.{Flowing}
 use Rattle.fold.specs.Filling.{total}
-use Rattle.fold.specs.Linked.{Walkable}
-
--- the number at i of a row
-abbrev pub numbersOf : List ℕ → ℕ → ℕ
-numbersOf row i = getD row i 0
+use Rattle.fold.specs.Linked.{Linked, Walkable, walkable}
 
 pub record Feeding (P : Plan) (amount fed : List ℕ) : Type 0 where
   pub amounts : 65536 ≤ length amount
@@ -51,4 +51,17 @@ flowing-feeds P n succ pred r e rows f most =
       marks = f .sized .marks;
       ordered = λ u w lu lw t. rows .ahead .marks w u lw lu .0 (f .ordered u w (omega (arith, f .events)) (omega (arith, f .events)) t);
       fits = omega (arith, f .events, total-most (P .events) (fedBy (r .amount) (r .fed)) (λ u l. rw e at most u (omega arith)));
+    }
+
+-- The rows of a faultless sheet, whose events give at most 1,000 at a place.
+pub sheet-foldable : (s : List ℕ) (known : Faultless s) (p n m : ℕ) → p < placesOf s → n ≡ eventsOf s → m ≡ pairsOf s
+    → (succ pred skel index : List ℕ) → OrderRows (planOf s) succ pred → Linked (planOf s) (pairsOf s) skel index
+    → (r : Rows) (free share : ℕ → ℕ) → Flowing n pred r → Tokenflow (netOf s) (planOf s) p (fedBy (r .amount) (r .fed)) free share
+    → Foldable (planOf s) n m succ skel index (r .amount) (r .fed)
+sheet-foldable s known p n m lp e d succ pred skel index rows linked r free share f t =
+    record {
+      events = sym e;
+      pairs = sym d;
+      way = walkable s known succ pred skel index rows linked;
+      feeds = flowing-feeds (planOf s) n succ pred r e rows f (λ u l. subst (λ (k : ℕ). sum k (λ w. fedBy (r .amount) (r .fed) u w) ≤ 1000) (sym e) (omega (arith, t .gives u (omega arith), known .gives (labelAt s u) p (known .labels u (omega arith)) lp)));
     }

@@ -2,17 +2,16 @@
 use Prim.Native.Nat.{ℕ, _+_, _*_, _≤_, _<_}
 use native.Mathlib.Nat.{eq-or-lt-of-le}
 use native.Mathlib.Omega.{arith}
-use mathlib.Core.Bool.{Bool, true, false, not}
+use mathlib.Core.Bool.{Bool}
 use mathlib.Core.Logic.{⊎-elim}
-use mathlib.Core.Path.{_≡_, refl, sym, ap, ap₂, _∙_}
-use lib.Dec.{T, eqb, eqb→eq, T-not, ltb, ltb→lt, lt→ltb}
+use mathlib.Core.Path.{_≡_, ap, ap₂, _∙_}
+use lib.Dec.{eqb, eqb→eq, T-not, ltb, ltb→lt, lt→ltb}
 use mir.Facts.{yes-eqb}
 use Rattle.finite.specs.Bounded.{decide, same}
-use Rattle.finite.specs.Sum.{on, sum, atEnd, on-yes, on-no, on-le, on-zero, sum-ext, sum-mono, sum-add, sum-one, sum-zero, row-more}
+use Rattle.finite.specs.Sum.{on, sum, atEnd, on-yes, on-no, on-le, on-zero, sum-ext, sum-mono, sum-add, sum-one, sum-zero, sum-row-more}
 use Rattle.plan.specs.Net.{Plan}
-use Rattle.plan.specs.Order.{skeleton}
 use Rattle.plan.specs.Flow.{Flow}
-use Rattle.fold.specs.Folded.{entering, leaving, Folded, folded-ext}
+use Rattle.fold.specs.Folded.{Folded, folded-ext}
 use Rattle.fold.specs.Carried.{Carried, carried-folds}
 
 -- the tokens of the turns before t
@@ -68,7 +67,7 @@ module _ (y : ℕ → ℕ → ℕ) (u w : ℕ) (hw : w < 256) where
     pub total-more : total n (upTo y (u * 256 + w + 1)) ≡ total n (upTo y (u * 256 + w)) + y u w
     unfolding total
     total-more =
-        sum-ext n _ _ (λ a l. sum-ext n _ _ (λ b h. up-to-more a b (omega arith)) ∙ row-more n u w (y u w) a (upTo y (u * 256 + w) a) lw)
+        sum-ext n _ _ (λ a l. sum-ext n _ _ (λ b h. up-to-more a b (omega arith)) ∙ sum-row-more n u w (y u w) a (upTo y (u * 256 + w) a) lw)
         ∙ sum-add n (λ a. sum n (upTo y (u * 256 + w) a)) (λ a. on (eqb u a) (y u w))
         ∙ ap (λ (z : ℕ). total n (upTo y (u * 256 + w)) + z) (sum-one n u (λ a. y u w) lu)
 
@@ -108,13 +107,13 @@ module _ (P : Plan) (few : P .events ≤ 256) (y : ℕ → ℕ → ℕ) (x : Flo
       filled-same (u * 256 + w) (u * 256 + w + 1) (λ a b ha hb. omega (arith, up-to-more y u w (omega arith) a b (omega arith), ap (λ (k : ℕ). on (eqb u a) (on (eqb w b) k)) none, ap (on (eqb u a)) (on-zero (eqb w b)), on-zero (eqb u a)))
 
   -- u has had its turn with every taker
-  pub filled-giver : (u : ℕ) → Filled P y (u * 256 + P .events) x → Filled P y ((u + 1) * 256 + 0) x
-  filled-giver u = filled-same (u * 256 + P .events) ((u + 1) * 256 + 0) (λ a b ha hb. up-to-same y _ _ a b (λ h. omega arith) (λ h. omega arith))
+  pub filled-giver : (u : ℕ) → Filled P y (u * 256 + P .events) x → Filled P y ((u + 1) * 256) x
+  filled-giver u = filled-same (u * 256 + P .events) ((u + 1) * 256) (λ a b ha hb. up-to-same y _ _ a b (λ h. omega arith) (λ h. omega arith))
 
   -- every giver has had its turn
-  pub filled-all : Filled P y (P .events * 256 + 0) x → Folded P y x
+  pub filled-all : Filled P y (P .events * 256) x → Folded P y x
   unfolding upTo
-  filled-all f = folded-ext P _ y x (f .folded) (λ a b ha hb. on-yes (ltb (a * 256 + b) (P .events * 256 + 0)) (y a b) (lt→ltb (a * 256 + b) (P .events * 256 + 0) (omega arith)))
+  filled-all f = folded-ext P _ y x (f .folded) (λ a b ha hb. on-yes (ltb (a * 256 + b) (P .events * 256)) (y a b) (lt→ltb (a * 256 + b) (P .events * 256) (omega arith)))
 
   module _ (u w : ℕ) (lu : u < P .events) (lw : w < P .events) (f : Filled P y (u * 256 + w) x) where
     -- a pair has room for the tokens from u to w

@@ -1,14 +1,14 @@
 -- A tokenflow on "before" folded onto the skeleton pairs is a compact tokenflow (003, theorem 2).
 use Prim.Native.Nat.{ℕ, _+_, _≤_, _<_}
 use native.Mathlib.Omega.{arith}
-use mathlib.Core.Bool.{not, _&&_, _||_}
+use mathlib.Core.Bool.{not, _&&_}
 use mathlib.Core.Logic.{⊎-elim}
-use mathlib.Core.Path.{_≡_, refl, sym, ap, subst, subst₂, _∙_}
+use mathlib.Core.Path.{_≡_, sym, ap, _∙_}
 use lib.Dec.{T, eqb, le→leb}
 use mir.Facts.{yes-and, yes-eqb}
 use Rattle.finite.specs.Bounded.{decide, yes-all, yes-or-left, yes-or-right}
-use Rattle.finite.specs.Sum.{sum, atEnd, sum-ext}
-use Rattle.plan.specs.Net.{Net, Plan, takenBy, givenBy}
+use Rattle.finite.specs.Sum.{on, sum, atEnd, sum-ext}
+use Rattle.plan.specs.Net.{Net, Plan}
 use Rattle.plan.specs.Order.{skeleton}
 use Rattle.plan.specs.Flow.{Flow, shares, inflow, outflow, rule1, rule2, rule3, rule4, valid}
 use Rattle.theory.specs.Duality.{Passes, passes-rules}
@@ -36,6 +36,19 @@ folded-ext P y y′ x f same =
       received = λ v l. omega (arith, f .received v l, sum-ext (P .events) (λ u. y u v) (λ u. y′ u v) (λ u h. same u v h l));
       bare = f .bare;
     }
+
+-- the same numbers on the pairs
+pub folded-row : (P : Plan) (y : ℕ → ℕ → ℕ) (x z : Flow) → Folded P y x → ((i : ℕ) → i < P .pairs → x i ≡ z i) → Folded P y z
+unfolding atEnd
+folded-row P y x z f same =
+    record {
+      balance = λ v l. omega (arith, f .balance v l, ends (P .later) v, ends (P .earlier) v);
+      received = λ v l. omega (arith, f .received v l, ends (P .later) v);
+      bare = λ i l b. sym (same i l) ∙ f .bare i l b;
+    }
+  where
+    ends : (e : ℕ → ℕ) (v : ℕ) → atEnd (P .pairs) e x v ≡ atEnd (P .pairs) e z v
+    ends e v = sum-ext (P .pairs) _ _ (λ i l. ap (on (eqb (e i) v)) (same i l))
 
 module _ (N : Net) (P : Plan) (p : ℕ) (y : ℕ → ℕ → ℕ) (free share : ℕ → ℕ) (t : Tokenflow N P p y free share) where
   module _ (x : Flow) (f : Folded P y x) (same : (v : ℕ) → v < P .events → x (P .pairs + v) ≡ share v) where

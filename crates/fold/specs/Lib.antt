@@ -2,5 +2,5 @@ pub mod Folded
 pub mod Carried
 pub mod Filling
 pub mod Linked
-pub mod Feeding
 pub mod Written
+pub mod Feeding

@@ -13,8 +13,8 @@ ghost use Rattle.fold.specs.Folded.{Folded};
 ghost use Rattle.fold.specs.Carried.{Carried};
 ghost use Rattle.fold.specs.Filling.{Filled};
 ghost use Rattle.fold.specs.Linked.{Linked, Walkable, StepBack};
-ghost use Rattle.fold.specs.Written.{Zeros, SharesWritten};
-ghost use Rattle.fold.specs.Feeding.{numbersOf, Foldable};
+ghost use Rattle.fold.specs.Written.{numbersOf, Zeros, SharesWritten, SharesFrom};
+ghost use Rattle.fold.specs.Feeding.{Foldable};
 use closure::is_skeleton;
 use lookup::earlier;
 use lookup::later;
@@ -157,4 +157,25 @@ pub fn write_shares(part: &mut [u32], share: &[u32], n: usize)
     for v in 0..n {
         part[v] = share[v];
     }
+}
+
+// Writes a flow row: the numbers of the pairs, then the shares of the events. What follows them stays.
+pub fn write_flow(
+    succ: &[u32],
+    skel: &[u32],
+    index: &[usize],
+    amount: &[u32],
+    fed: &[u32],
+    share: &[u32],
+    row: &mut [u32],
+    pairs: usize,
+    n: usize,
+)
+    requires { ⌜ ((P : Plan) × Foldable P n pairs (now succ) (now skel) (now index) (now amount) (now fed)) ⌝ }
+    requires { ⌜ (pairs + n ≤ length (now row)) × (n ≤ length (now share)) ⌝ }
+    ensures { λ _. ⌜ ((P : Plan) → Foldable P n pairs (now (succ .entry)) (now (skel .entry)) (now (index .entry)) (now (amount .entry)) (now (fed .entry)) → Folded P (fedBy (now (amount .entry)) (now (fed .entry))) (numbersOf (now (row .exit)))) ⌝ }
+    ensures { λ _. ⌜ SharesFrom pairs (now (row .entry)) (now (row .exit)) (now (share .entry)) n ⌝ }
+{
+    fold(succ, skel, index, amount, fed, &mut row[..pairs], n);
+    write_shares(&mut row[pairs..], share, n);
 }

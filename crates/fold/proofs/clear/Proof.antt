@@ -8,8 +8,6 @@ use Rattle.fold.specs.Written.{Zeros}
 use Rattle.fold.proofs.Stores.{no-zeros, zeros-more}
 use Rattle.fold.proofs.clear.Statement.{statement}
 use Rattle.fold.proofs.clear.Tie as tie
-use Rattle.fold.proofs.clear.Reads as reads
-use Rattle.fold.proofs.clear.Lts as lts
 
 abbrev Inv-loop : tie.InvT-loop
 Inv-loop row₀ i₀ i-end row i =
@@ -18,35 +16,27 @@ Inv-loop row₀ i₀ i-end row i =
 abbrev μ-loop : tie.MeasureT-loop
 μ-loop row₀ i₀ i-end row i = i-end - i
 
--- src/lib.rt:130:5
 loop-holds : tie.Need-loop-holds Inv-loop μ-loop
 loop-holds c = (refl, zero-le, refl, no-zeros (c .args .row .now))
 
--- src/lib.rt:131:9
 mul-row : tie.Need-mul-row Inv-loop μ-loop
 mul-row c = search needs
 
--- src/lib.rt:131:9
 slice-write-row : tie.Need-slice-write-row Inv-loop μ-loop
 slice-write-row c = search needs
 
--- src/lib.rt:130:9
 add-i : tie.Need-add-i Inv-loop μ-loop
 add-i c = search needs
 
--- src/lib.rt:130:5
 loop-less : tie.Need-loop-less Inv-loop μ-loop
 loop-less c = search needs
 
--- src/lib.rt:130:5
 loop-again : tie.Need-loop-again Inv-loop μ-loop
 loop-again c = let l = c .before .loop in (l .inv .0, omega arith, simp length-set (l .inv .2), zeros-more (l .row) (l .i) 0 (slice-write-row c) refl (l .inv .3))
 
--- src/lib.rt:127:1
 same-length : tie.Need-same-length Inv-loop μ-loop
 same-length c = c .before .loop .inv .2
 
--- src/lib.rt:127:1
 returns : tie.Need-returns Inv-loop μ-loop
 returns c = subst (Zeros (c .before .loop .row)) (omega arith) (c .before .loop .inv .3)
 

@@ -6,16 +6,10 @@ use Rattle.fold.specs.Written.{Zeros}
 use borrow.Author.Needs.{needs}
 use Rattle.fold.proofs.fold.Statement.{statement}
 use Rattle.fold.proofs.fold.Tie as tie
-use Rattle.fold.proofs.fold.Reads as reads
-use Rattle.fold.proofs.fold.Lts as lts
-use Rattle.fold.proofs.clear.Reads as clear-reads
-use Rattle.fold.proofs.fold_givers.Reads as fold-givers-reads
 
--- src/lib.rt:148:5
 clear-requires : tie.Need-clear-requires
 clear-requires c κs = search needs
 
--- src/lib.rt:149:5
 fold-givers-requires : tie.Need-fold-givers-requires
 fold-givers-requires c κs =
     let s = c .before .before .before .before .before .before .before .before .before .before .before in
@@ -23,11 +17,9 @@ fold-givers-requires c κs =
     let g = s .pre in
     ((g .0, subst (λ (m : ℕ). Foldable (g .0) (s .args .n) m (s .args .succ .now) (s .args .skel .now) (s .args .index .now) (s .args .amount .now) (s .args .fed .now)) (sym (d .kept .0)) (g .1)), subst (Zeros (d .last .0)) (sym (d .kept .0)) (d .ensures))
 
--- src/lib.rt:136:1
 same-length : tie.Need-same-length
 same-length c = search needs
 
--- src/lib.rt:136:1
 returns : tie.Need-returns
 returns c =
     let s = c .before .before .before .before .before .before .before .before .before .before .before .before .before .before in

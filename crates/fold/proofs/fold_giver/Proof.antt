@@ -13,14 +13,11 @@ use Rattle.plan.specs.Net.{Plan}
 use Rattle.marks.specs.Marks.{marked}
 use Rattle.tokenflow.specs.Rows.{fedBy}
 use Rattle.fold.specs.Filling.{Filled}
-use Rattle.fold.specs.Feeding.{numbersOf, Foldable}
+use Rattle.fold.specs.Feeding.{Foldable}
+use Rattle.fold.specs.Written.{numbersOf}
 use Rattle.fold.proofs.Turns.{fill-next, turn-before, turn-room, turn-more, turn-skip}
 use Rattle.fold.proofs.fold_giver.Statement.{statement}
 use Rattle.fold.proofs.fold_giver.Tie as tie
-use Rattle.fold.proofs.fold_giver.Reads as reads
-use Rattle.fold.proofs.fold_giver.Lts as lts
-use Rattle.fold.proofs.trace.Reads as trace-reads
-use Rattle.marks.proofs.is_marked.Reads as is-marked-reads
 
 abbrev Inv-loop : tie.InvT-loop
 Inv-loop succ skel index amount fed row₀ u n w₀ row w =
@@ -30,7 +27,6 @@ Inv-loop succ skel index amount fed row₀ u n w₀ row w =
 abbrev μ-loop : tie.MeasureT-loop
 μ-loop succ skel index amount fed row₀ u n w₀ row w = n - w
 
--- src/lib.rt:100:5
 loop-holds : tie.Need-loop-holds Inv-loop μ-loop
 loop-holds c = let a = c .before .before .before .before .before .before .args in (zero-le, refl, λ P g f. subst (λ (t : ℕ). Filled P (fedBy (a .amount .now) (a .fed .now)) t (numbersOf (a .row .now))) (omega arith) f)
 
@@ -44,19 +40,15 @@ bounds c =
 is-marked-requires : tie.Need-is-marked-requires Inv-loop μ-loop
 is-marked-requires c κs = let l = bounds c in (omega (arith, l .0, c .before .before .before .before .before .before .before .before .pre .0 .1 .feeds .marks), l .1)
 
--- src/lib.rt:102:28
 mul-k : tie.Need-mul-k Inv-loop μ-loop
 mul-k c = omega (arith, bounds (c .before .before))
 
--- src/lib.rt:102:28
 add-k : tie.Need-add-k Inv-loop μ-loop
 add-k c = omega (arith, bounds (c .before .before))
 
--- src/lib.rt:102:21
 mul-k-2 : tie.Need-mul-k-2 Inv-loop μ-loop
 mul-k-2 c = omega (arith, bounds (c .before .before))
 
--- src/lib.rt:102:21
 shared-slice-read-k : tie.Need-shared-slice-read-k Inv-loop μ-loop
 shared-slice-read-k c = omega (arith, bounds (c .before .before .before), c .before .before .before .before .before .before .before .before .before .before .before .pre .0 .1 .feeds .amounts)
 
@@ -74,15 +66,12 @@ trace-requires c κs =
     let feeds = fed-to (c .before .before) in
     ((g .0, g .1 .way, turn-before (g .0) (s .args .n) (length (s .args .row .now)) (s .args .succ .now) (s .args .skel .now) (s .args .index .now) (s .args .amount .now) (s .args .fed .now) (g .1) (l .row) (s .args .u) (l .w) (s .pre .1) below filled feeds, g .1 .pairs ∙ sym (l .inv .1)), λ i h. turn-room (g .0) (s .args .n) (length (s .args .row .now)) (s .args .succ .now) (s .args .skel .now) (s .args .index .now) (s .args .amount .now) (s .args .fed .now) (g .1) (l .row) (s .args .u) (l .w) (s .pre .1) below filled feeds i (omega (arith, l .inv .1)))
 
--- src/lib.rt:100:9
 add-w : tie.Need-add-w Inv-loop μ-loop
 add-w c = search needs
 
--- src/lib.rt:100:5
 loop-less : tie.Need-loop-less Inv-loop μ-loop
 loop-less c = search needs
 
--- src/lib.rt:100:5
 loop-again : tie.Need-loop-again Inv-loop μ-loop
 loop-again c =
     let d = c .before in
@@ -102,11 +91,9 @@ loop-again c =
     ))
     (c .if1 .came)
 
--- src/lib.rt:86:1
 same-length : tie.Need-same-length Inv-loop μ-loop
 same-length c = c .before .loop .inv .1
 
--- src/lib.rt:86:1
 returns : tie.Need-returns Inv-loop μ-loop
 returns c = let s = c .before .before .before .before .before .before .before .before in let l = c .before .loop in λ P g f. fill-next P (s .args .n) (length (s .args .row .now)) (s .args .succ .now) (s .args .skel .now) (s .args .index .now) (s .args .amount .now) (s .args .fed .now) g (l .row) (s .args .u) (l .w) (omega (arith, c .loop-test .left, l .inv .0)) (l .inv .2 P g f)
 

@@ -7,13 +7,11 @@ use lib.ListN.{length}
 use Rattle.plan.specs.Net.{Plan}
 use Rattle.tokenflow.specs.Rows.{fedBy}
 use Rattle.fold.specs.Filling.{Filled}
-use Rattle.fold.specs.Feeding.{numbersOf, Foldable}
+use Rattle.fold.specs.Feeding.{Foldable}
+use Rattle.fold.specs.Written.{numbersOf}
 use Rattle.fold.proofs.Turns.{fill-start, fill-done}
 use Rattle.fold.proofs.fold_givers.Statement.{statement}
 use Rattle.fold.proofs.fold_givers.Tie as tie
-use Rattle.fold.proofs.fold_givers.Reads as reads
-use Rattle.fold.proofs.fold_givers.Lts as lts
-use Rattle.fold.proofs.fold_giver.Reads as fold-giver-reads
 
 abbrev Inv-loop : tie.InvT-loop
 Inv-loop succ skel index amount fed row₀ n u₀ row u =
@@ -23,11 +21,9 @@ Inv-loop succ skel index amount fed row₀ n u₀ row u =
 abbrev μ-loop : tie.MeasureT-loop
 μ-loop succ skel index amount fed row₀ n u₀ row u = n - u
 
--- src/lib.rt:122:5
 loop-holds : tie.Need-loop-holds Inv-loop μ-loop
 loop-holds c = let s = c .before .before .before .before .before .before in (zero-le, refl, λ P g. fill-start P (s .args .n) (length (s .args .row .now)) (s .args .succ .now) (s .args .skel .now) (s .args .index .now) (s .args .amount .now) (s .args .fed .now) g (s .args .row .now) (s .pre .1))
 
--- src/lib.rt:123:9
 fold-giver-requires : tie.Need-fold-giver-requires Inv-loop μ-loop
 fold-giver-requires c κs =
     let s = c .before .before .before .before .before .before .before .before .before in
@@ -35,15 +31,12 @@ fold-giver-requires c κs =
     let g = s .pre .0 in
     ((g .0, subst (λ (m : ℕ). Foldable (g .0) (s .args .n) m (s .args .succ .now) (s .args .skel .now) (s .args .index .now) (s .args .amount .now) (s .args .fed .now)) (sym (l .inv .1)) (g .1), l .inv .2 (g .0) (g .1)), c .before .loop-test .taken)
 
--- src/lib.rt:122:9
 add-u : tie.Need-add-u Inv-loop μ-loop
 add-u c = search needs
 
--- src/lib.rt:122:5
 loop-less : tie.Need-loop-less Inv-loop μ-loop
 loop-less c = search needs
 
--- src/lib.rt:122:5
 loop-again : tie.Need-loop-again Inv-loop μ-loop
 loop-again c =
     let d = c .before .before in
@@ -54,11 +47,9 @@ loop-again c =
       λ P g. d .fold-giver .ensures P (subst (λ (m : ℕ). Foldable P (s .args .n) m (s .args .succ .now) (s .args .skel .now) (s .args .index .now) (s .args .amount .now) (s .args .fed .now)) (sym (l .inv .1)) g) (l .inv .2 P g),
     )
 
--- src/lib.rt:109:1
 same-length : tie.Need-same-length Inv-loop μ-loop
 same-length c = c .before .loop .inv .1
 
--- src/lib.rt:109:1
 returns : tie.Need-returns Inv-loop μ-loop
 returns c = let s = c .before .before .before .before .before .before .before .before in let l = c .before .loop in λ P g. fill-done P (s .args .n) (length (s .args .row .now)) (s .args .succ .now) (s .args .skel .now) (s .args .index .now) (s .args .amount .now) (s .args .fed .now) g (l .row) (l .u) (omega (arith, c .loop-test .left, l .inv .0)) (l .inv .2 P g)
 

@@ -14,12 +14,6 @@ use Rattle.fold.specs.Linked.{Linked}
 use Rattle.fold.proofs.Links.{start, skip, more, told}
 use Rattle.fold.proofs.index_pairs.Statement.{statement}
 use Rattle.fold.proofs.index_pairs.Tie as tie
-use Rattle.fold.proofs.index_pairs.Reads as reads
-use Rattle.fold.proofs.index_pairs.Lts as lts
-use Rattle.closure.proofs.is_skeleton.Reads as is-skeleton-reads
-use Rattle.lookup.proofs.earlier.Reads as earlier-reads
-use Rattle.lookup.proofs.later.Reads as later-reads
-use Rattle.marks.proofs.mark.Reads as mark-reads
 
 abbrev Inv-loop : tie.InvT-loop
 Inv-loop s places transitions events pairs succ pred skel₀ index₀ i₀ skel index i =
@@ -28,7 +22,6 @@ Inv-loop s places transitions events pairs succ pred skel₀ index₀ i₀ skel 
 abbrev μ-loop : tie.MeasureT-loop
 μ-loop s places transitions events pairs succ pred skel₀ index₀ i₀ skel index i = pairs - i
 
--- src/lib.rt:44:5
 loop-holds : tie.Need-loop-holds Inv-loop μ-loop
 loop-holds c = let s = c .before .before .before .before .before in (zero-le, refl, start (planOf (s .args .s .now)) (s .args .skel .now) (s .args .index .now) (s .pre .1 .1 .1 .0) (s .pre .1 .1 .1 .1))
 
@@ -39,7 +32,6 @@ pair c = omega (arith, c .loop-test .taken, c .before .before .before .before .b
 earlier-requires : tie.Need-earlier-requires Inv-loop μ-loop
 earlier-requires c κs = let s = c .before .before .before .before .before .before .before in let e = s .pre .1 .0 in (s .pre .0 .laid, ((e .0, e .1, e .2), pair c))
 
--- src/lib.rt:46:13
 later-requires : tie.Need-later-requires Inv-loop μ-loop
 later-requires c κs = let s = c .before .before .before .before .before .before .before .before in let e = s .pre .1 .0 in (s .pre .0 .laid, ((e .0, e .1, e .2), pair (c .before)))
 
@@ -62,35 +54,27 @@ answer c =
 is-skeleton-requires : tie.Need-is-skeleton-requires Inv-loop μ-loop
 is-skeleton-requires c κs = let s = c .before .before .before .before .before .before .before .before .before in let l = within c in (omega (arith, l .0, s .pre .1 .1 .0 .succ-size), omega (arith, l .1, s .pre .1 .1 .0 .pred-size))
 
--- src/lib.rt:48:13
 mark-requires : tie.Need-mark-requires Inv-loop μ-loop
-mark-requires c κs = let l = within (c .before .before .before) in (omega (arith, l .1, c .before .before .before .before .before .before .loop .inv .2 .skel-size), l .0)
+mark-requires c κs = omega (arith, within (c .before .before .before), c .before .before .before .before .before .before .loop .inv .2 .skel-size)
 
--- src/lib.rt:49:22
 mul-at : tie.Need-mul-at Inv-loop μ-loop
 mul-at c = omega (arith, within (c .before .before .before .before .before .before .before))
 
--- src/lib.rt:49:22
 add-at : tie.Need-add-at Inv-loop μ-loop
 add-at c = omega (arith, within (c .before .before .before .before .before .before .before .before))
 
--- src/lib.rt:50:13
 mul-index : tie.Need-mul-index Inv-loop μ-loop
 mul-index c = omega (arith, within (c .before .before .before .before .before .before .before .before))
 
--- src/lib.rt:50:13
 slice-write-index : tie.Need-slice-write-index Inv-loop μ-loop
 slice-write-index c = omega (arith, within (c .before .before .before .before .before .before .before .before), c .before .before .before .before .before .before .before .before .before .before .before .loop .inv .2 .index-size)
 
--- src/lib.rt:44:9
 add-i : tie.Need-add-i Inv-loop μ-loop
 add-i c = search needs
 
--- src/lib.rt:44:5
 loop-less : tie.Need-loop-less Inv-loop μ-loop
 loop-less c = search needs
 
--- src/lib.rt:44:5
 loop-again : tie.Need-loop-again Inv-loop μ-loop
 loop-again c =
     let d = c .before in
@@ -113,15 +97,12 @@ loop-again c =
     ))
     (c .if1 .came)
 
--- src/lib.rt:27:1
 same-length : tie.Need-same-length Inv-loop μ-loop
 same-length c = c .before .loop .inv .2 .skel-size ∙ sym (start (planOf (c .before .before .before .before .before .before .before .args .s .now)) _ (c .before .before .before .before .before .before .before .args .index .now) (c .before .before .before .before .before .before .before .pre .1 .1 .1 .0) (c .before .before .before .before .before .before .before .pre .1 .1 .1 .1) .skel-size)
 
--- src/lib.rt:27:1
 same-length-2 : tie.Need-same-length-2 Inv-loop μ-loop
 same-length-2 c = c .before .loop .inv .1
 
--- src/lib.rt:27:1
 returns : tie.Need-returns Inv-loop μ-loop
 returns c = subst (λ (m : ℕ). Linked (planOf (c .before .before .before .before .before .before .before .args .s .now)) m (c .before .loop .skel) (c .before .loop .index)) (omega (arith, c .loop-test .left, c .before .loop .inv .0, c .before .before .before .before .before .before .before .pre .1 .0 .3)) (c .before .loop .inv .2)
 

@@ -10,39 +10,29 @@ use Rattle.fold.proofs.Walks.{ends, step-here, step-there, step-exists}
 use borrow.Author.Needs.{needs}
 use Rattle.fold.proofs.step_back.Statement.{statement}
 use Rattle.fold.proofs.step_back.Tie as tie
-use Rattle.fold.proofs.step_back.Reads as reads
-use Rattle.fold.proofs.step_back.Lts as lts
-use Rattle.marks.proofs.is_marked.Reads as is-marked-reads
-use Rattle.marks.proofs.last_common.Reads as last-common-reads
 
 -- both are events
 events : (c : tie.Start) → (c .args .u < 256) × (c .args .cur < 256)
 events c = ends (c .pre .0) (c .args .succ .now) (c .args .skel .now) (c .args .index .now) (c .pre .1) (c .args .u) (c .args .cur) (c .pre .2)
 
 is-marked-requires : tie.Need-is-marked-requires
-is-marked-requires c κs = let s = c .before .before .before in let l = events s in (omega (arith, l .1, s .pre .1 .linked .skel-size), l .0)
+is-marked-requires c κs = let s = c .before .before .before in omega (arith, events s, s .pre .1 .linked .skel-size)
 
--- src/lib.rt:62:9
 returns : tie.Need-returns
 returns c = let s = c .before .before .before .before .before in (events s .0, λ P way b. step-here P (s .args .succ .now) (s .args .skel .now) (s .args .index .now) way (s .args .u) (s .args .cur) b (passes (marked (s .args .skel .now) (s .args .cur) (s .args .u)) (sym (c .before .is-marked .ensures) ∙ c .if1 .taken)))
 
--- src/lib.rt:64:24
 last-common-requires : tie.Need-last-common-requires
-last-common-requires c κs = let s = c .before .before .before .before .before in let l = events s in (omega (arith, l .1, s .pre .1 .linked .skel-size), omega (arith, l .0, s .pre .1 .succ-size))
+last-common-requires c κs = let s = c .before .before .before .before .before in omega (arith, events s, s .pre .1 .linked .skel-size, s .pre .1 .succ-size)
 
--- src/lib.rt:64:19
 enum-known-v : tie.Need-enum-known-v
 enum-known-v c = search needs
 
--- src/lib.rt:65:9
 enum-told : tie.Need-enum-told
 enum-told c = search needs
 
--- src/lib.rt:65:9
 returns-2 : tie.Need-returns-2
 returns-2 c = let s = c .before .before .before .before .before .before .before .before in absurd (step-exists (s .pre .0) (s .args .succ .now) (s .args .skel .now) (s .args .index .now) (s .pre .1) (s .args .u) (s .args .cur) (s .pre .2) (fails (marked (s .args .skel .now) (s .args .cur) (s .args .u)) (sym (c .before .before .before .before .is-marked .ensures) ∙ c .before .before .before .if1 .left)) (subst (Tells (Both (s .args .skel .now) (s .args .cur) (s .args .succ .now) (s .args .u))) (c .enum-told .given .1) (c .before .before .last-common .ensures)))
 
--- src/lib.rt:56:1
 returns-3 : tie.Need-returns-3
 returns-3 c =
     let s = c .before .before .before .before .before .before .before .before .before in

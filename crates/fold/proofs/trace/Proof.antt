@@ -9,9 +9,6 @@ use Rattle.fold.specs.Linked.{Walkable, StepBack}
 use Rattle.fold.proofs.Walks.{ends, steps, fewer, Walk, walk-start, walk-done, walk-before, walk-fresh, walk-more}
 use Rattle.fold.proofs.trace.Statement.{statement}
 use Rattle.fold.proofs.trace.Tie as tie
-use Rattle.fold.proofs.trace.Reads as reads
-use Rattle.fold.proofs.trace.Lts as lts
-use Rattle.fold.proofs.step_back.Reads as step-back-reads
 
 abbrev Inv-loop : tie.InvT-loop
 Inv-loop succ skel index row₀ u w k cur₀ row cur =
@@ -20,7 +17,6 @@ Inv-loop succ skel index row₀ u w k cur₀ row cur =
 abbrev μ-loop : tie.MeasureT-loop
 μ-loop succ skel index row₀ u w k cur₀ row cur = steps succ u cur
 
--- src/lib.rt:85:5
 loop-holds : tie.Need-loop-holds Inv-loop μ-loop
 loop-holds c = let a = c .before .before .before .before .args in (refl, λ P way b. walk-start P (a .row .now) (a .u) (a .w) (a .k) b)
 
@@ -44,23 +40,18 @@ place c =
     let s = c .before .before .before .before .before .before .before in
     (c .step-back .ensures .0, ends (s .pre .0 .0) (s .args .succ .now) (s .args .skel .now) (s .args .index .now) (s .pre .0 .1) (s .args .u) (c .before .before .loop .cur) (before (c .before)) .1)
 
--- src/lib.rt:86:13
 step-back-requires : tie.Need-step-back-requires Inv-loop μ-loop
 step-back-requires c κs = let s = c .before .before .before .before .before .before in (s .pre .0 .0, s .pre .0 .1, before c)
 
--- src/lib.rt:87:23
 mul-i : tie.Need-mul-i Inv-loop μ-loop
 mul-i c = omega (arith, place c)
 
--- src/lib.rt:87:23
 add-i : tie.Need-add-i Inv-loop μ-loop
 add-i c = omega (arith, place c)
 
--- src/lib.rt:87:17
 mul-i-2 : tie.Need-mul-i-2 Inv-loop μ-loop
 mul-i-2 c = omega (arith, place c)
 
--- src/lib.rt:87:17
 shared-slice-read-i : tie.Need-shared-slice-read-i Inv-loop μ-loop
 shared-slice-read-i c = omega (arith, place (c .before), c .before .before .before .before .before .before .before .before .pre .0 .1 .linked .index-size)
 
@@ -68,15 +59,12 @@ shared-slice-read-i c = omega (arith, place (c .before), c .before .before .befo
 named : (c : tie.After-step-back Inv-loop μ-loop) → getD (c .before .before .before .before .before .before .before .args .index .now) (c .step-back .result * 256 + c .before .before .loop .cur) 0 < length (c .before .before .before .before .before .before .before .args .row .now)
 named c = omega (arith, step c .link .named, c .before .before .before .before .before .before .before .pre .0 .3)
 
--- src/lib.rt:88:9
 mul-row : tie.Need-mul-row Inv-loop μ-loop
 mul-row c = omega (arith, named (c .before))
 
--- src/lib.rt:88:9
 slice-read-row : tie.Need-slice-read-row Inv-loop μ-loop
 slice-read-row c = omega (arith, named (c .before .before), c .before .before .before .before .loop .inv .0)
 
--- src/lib.rt:88:9
 add-row : tie.Need-add-row Inv-loop μ-loop
 add-row c =
     let s = c .before .before .before .before .before .before .before .before .before in
@@ -84,18 +72,15 @@ add-row c =
     let d = c .before .before in
     omega (arith, s .pre .1 (getD (s .args .index .now) (d .step-back .result * 256 + l .cur) 0) (named d), walk-fresh (s .pre .0 .0) (s .args .row .now) (l .row) (s .args .u) (l .cur) (s .args .w) (s .args .k) (walk (d .before .before)) (s .args .index .now) (d .step-back .result) (step d))
 
--- src/lib.rt:88:9
 slice-write-row : tie.Need-slice-write-row Inv-loop μ-loop
 slice-write-row c = omega (arith, named (c .before .before), c .before .before .before .before .loop .inv .0)
 
--- src/lib.rt:85:5
 loop-less : tie.Need-loop-less Inv-loop μ-loop
 loop-less c =
     let s = c .before .before .before .before .before .before .before .before .before in
     let d = c .before .before in
     fewer (s .pre .0 .0) (s .args .succ .now) (s .args .skel .now) (s .args .index .now) (s .pre .0 .1) (s .args .u) (d .before .before .loop .cur) (d .step-back .result) (before (d .before)) (step d)
 
--- src/lib.rt:85:5
 loop-again : tie.Need-loop-again Inv-loop μ-loop
 loop-again c =
     let s = c .before .before .before .before .before .before .before .before .before in
@@ -108,11 +93,9 @@ loop-again c =
           walk-more P (s .args .row .now) (l .row) (s .args .u) (l .cur) (s .args .w) (s .args .k) w (s .args .index .now) (d .step-back .result) back (s .args .succ .now) (s .args .skel .now) way (omega (arith, named d, l .inv .0)),
     )
 
--- src/lib.rt:71:1
 same-length : tie.Need-same-length Inv-loop μ-loop
 same-length c = c .before .loop .inv .0
 
--- src/lib.rt:71:1
 returns : tie.Need-returns Inv-loop μ-loop
 returns c = let s = c .before .before .before .before .before .before in λ P way b. walk-done P (s .args .row .now) (c .before .loop .row) (s .args .u) (c .before .loop .cur) (s .args .w) (s .args .k) (c .before .loop .inv .1 P way b) (c .loop-test .left)
 

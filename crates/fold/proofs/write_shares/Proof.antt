@@ -7,8 +7,6 @@ use Rattle.fold.specs.Written.{SharesWritten}
 use Rattle.fold.proofs.Stores.{shares-start, shares-more}
 use Rattle.fold.proofs.write_shares.Statement.{statement}
 use Rattle.fold.proofs.write_shares.Tie as tie
-use Rattle.fold.proofs.write_shares.Reads as reads
-use Rattle.fold.proofs.write_shares.Lts as lts
 
 abbrev Inv-loop : tie.InvT-loop
 Inv-loop part₀ share n v₀ part v =
@@ -17,43 +15,33 @@ Inv-loop part₀ share n v₀ part v =
 abbrev μ-loop : tie.MeasureT-loop
 μ-loop part₀ share n v₀ part v = n - v
 
--- src/lib.rt:157:5
 loop-holds : tie.Need-loop-holds Inv-loop μ-loop
 loop-holds c = (zero-le, shares-start (c .args .part .now) (c .args .share .now))
 
--- src/lib.rt:158:19
 mul-part : tie.Need-mul-part Inv-loop μ-loop
 mul-part c = omega (arith, c .before .before .pre)
 
--- src/lib.rt:158:19
 shared-slice-read-part : tie.Need-shared-slice-read-part Inv-loop μ-loop
 shared-slice-read-part c = omega (arith, c .before .loop-test .taken, c .before .before .before .pre)
 
--- src/lib.rt:158:9
 mul-part-2 : tie.Need-mul-part-2 Inv-loop μ-loop
 mul-part-2 c = omega (arith, c .before .loop-test .taken, c .before .before .before .pre)
 
--- src/lib.rt:158:9
 slice-write-part : tie.Need-slice-write-part Inv-loop μ-loop
 slice-write-part c = omega (arith, c .before .loop-test .taken, c .before .before .before .pre, c .before .before .loop .inv .1 .size)
 
--- src/lib.rt:157:9
 add-v : tie.Need-add-v Inv-loop μ-loop
 add-v c = omega (arith, c .before .loop-test .taken, c .before .before .before .pre)
 
--- src/lib.rt:157:5
 loop-less : tie.Need-loop-less Inv-loop μ-loop
 loop-less c = omega (arith, c .before .loop-test .taken)
 
--- src/lib.rt:157:5
 loop-again : tie.Need-loop-again Inv-loop μ-loop
 loop-again c = let l = c .before .before .loop in let a = c .before .before .before .args in (omega (arith, c .before .loop-test .taken), shares-more (l .part) (l .v) (getD (a .share .now) (l .v) 0) (slice-write-part c) (a .part .now) (a .share .now) refl (l .inv .1))
 
--- src/lib.rt:153:1
 same-length : tie.Need-same-length Inv-loop μ-loop
 same-length c = c .before .loop .inv .1 .size
 
--- src/lib.rt:153:1
 returns : tie.Need-returns Inv-loop μ-loop
 returns c = subst (SharesWritten (c .before .before .args .part .now) (c .before .loop .part) (c .before .before .args .share .now)) (omega (arith, c .loop-test .left, c .before .loop .inv .0)) (c .before .loop .inv .1)
 
