@@ -1,4 +1,6 @@
 // A tokenflow on "before", folded onto the skeleton pairs: the compact tokenflow (003, theorem 2) in a lent row.
+// The sheet is read for the index of skeleton pairs only. From there on a plan stands in the contracts alone: some plan has the rows
+// that are lent, and what is promised holds of every plan that has them.
 ghost use Prim.Native.Nat.{ℕ, _+_, _*_, _<_, _≤_};
 ghost use mathlib.Core.Path.{_≡_};
 ghost use lib.ListN.{length, getD};
@@ -124,7 +126,8 @@ fn fold_givers(
     }
 }
 
-fn clear(row: &mut [u32])
+// Writes 0 into the whole row.
+pub fn clear(row: &mut [u32])
     ensures { λ _. ⌜ Zeros (now (row .exit)) (length (now (row .entry))) ⌝ }
 {
     for i in 0..row.len() {
