@@ -186,3 +186,21 @@ end-start e x v = sum-start _
 pub end-more : (m : ℕ) (e x : ℕ → ℕ) (v : ℕ) → atEnd (m + 1) e x v ≡ atEnd m e x v + on (eqb (e m) v) (x m)
 unfolding atEnd
 end-more m e x v = sum-more m _
+
+-- k more at one index: for its end
+pub at-end-more : (m : ℕ) (e x z : ℕ → ℕ) (i k : ℕ) → i < m → ((j : ℕ) → j < m → z j ≡ x j + on (eqb i j) k) → (v : ℕ) → atEnd m e z v ≡ atEnd m e x v + on (eqb (e i) v) k
+unfolding atEnd
+at-end-more m e x z i k l more v =
+    sum-ext m _ (λ j. on (eqb (e j) v) (x j) + on (eqb i j) (on (eqb (e j) v) k)) (λ j h. ap (on (eqb (e j) v)) (more j h) ∙ on-add (eqb (e j) v) (x j) (on (eqb i j) k) ∙ ap (λ (n : ℕ). on (eqb (e j) v) (x j) + n) (on-swap (eqb (e j) v) (eqb i j) k))
+    ∙ sum-add m (λ j. on (eqb (e j) v) (x j)) (λ j. on (eqb i j) (on (eqb (e j) v) k))
+    ∙ ap (λ (n : ℕ). sum m (λ j. on (eqb (e j) v) (x j)) + n) (sum-one m i (λ j. on (eqb (e j) v) k) l)
+
+-- k more at (u, w): in row u, and in column w
+pub sum-row-more : (n u w k a : ℕ) (f : ℕ → ℕ) → w < n → sum n (λ b. f b + on (eqb u a) (on (eqb w b) k)) ≡ sum n f + on (eqb u a) k
+sum-row-more n u w k a f l =
+    sum-add n f (λ b. on (eqb u a) (on (eqb w b) k))
+    ∙ ap (λ (z : ℕ). sum n f + z) (sym (on-sum (eqb u a) n (λ b. on (eqb w b) k)) ∙ ap (on (eqb u a)) (sum-one n w (λ b. k) l))
+
+pub sum-column-more : (n u w k b : ℕ) (f : ℕ → ℕ) → u < n → sum n (λ a. f a + on (eqb u a) (on (eqb w b) k)) ≡ sum n f + on (eqb w b) k
+sum-column-more n u w k b f l =
+    sum-add n f (λ a. on (eqb u a) (on (eqb w b) k)) ∙ ap (λ (z : ℕ). sum n f + z) (sum-one n u (λ a. on (eqb w b) k) l)

@@ -7,7 +7,7 @@ use mathlib.Core.Path.{_≡_, refl, sym, ap, subst, subst₂, _∙_}
 use lib.Dec.{T, eqb}
 use lib.ListN.{getD}
 use mir.Facts.{yes-eqb}
-use Rattle.finite.specs.Sum.{on, sum, sum-ext, sum-add, sum-one, on-sum, on-yes, sum-term}
+use Rattle.finite.specs.Sum.{on, sum, sum-ext, sum-add, sum-one, on-yes, sum-term, sum-row-more, sum-column-more}
 use Rattle.marks.specs.Marks.{marked, HasRows}
 use Rattle.tokenflow.specs.Rows.{fedBy, Exact, Raised, Lowered, Rows, Drawn, Sized, MayDraw, MayGiveBack}
 
@@ -61,15 +61,11 @@ lacking n r = sum n (λ w. getD (r .share) w 0)
 module _ (n : ℕ) (r r′ : Rows) (u w k : ℕ) (few : n ≤ 256) (d : Drawn r r′ u w k) where
   row-more : (a : ℕ) → a < n → w < n → sum n (λ b. fedBy (r′ .amount) (r′ .fed) a b) ≡ sum n (λ b. fedBy (r .amount) (r .fed) a b) + on (eqb u a) k
   row-more a la lw =
-      sum-ext n _ _ (λ b l. d .raised .more a b (omega arith) (omega arith))
-      ∙ sum-add n (λ b. fedBy (r .amount) (r .fed) a b) (λ b. on (eqb u a) (on (eqb w b) k))
-      ∙ ap (λ (z : ℕ). sum n (λ b. fedBy (r .amount) (r .fed) a b) + z) (sym (on-sum (eqb u a) n (λ b. on (eqb w b) k)) ∙ ap (on (eqb u a)) (sum-one n w (λ b. k) lw))
+      sum-ext n _ _ (λ b l. d .raised .more a b (omega arith) (omega arith)) ∙ sum-row-more n u w k a (λ b. fedBy (r .amount) (r .fed) a b) lw
 
   column-more : (b : ℕ) → b < n → u < n → sum n (λ a. fedBy (r′ .amount) (r′ .fed) a b) ≡ sum n (λ a. fedBy (r .amount) (r .fed) a b) + on (eqb w b) k
   column-more b lb lu =
-      sum-ext n _ _ (λ a l. d .raised .more a b (omega arith) (omega arith))
-      ∙ sum-add n (λ a. fedBy (r .amount) (r .fed) a b) (λ a. on (eqb u a) (on (eqb w b) k))
-      ∙ ap (λ (z : ℕ). sum n (λ a. fedBy (r .amount) (r .fed) a b) + z) (sum-one n u (λ a. on (eqb w b) k) lu)
+      sum-ext n _ _ (λ a l. d .raised .more a b (omega arith) (omega arith)) ∙ sum-column-more n u w k b (λ a. fedBy (r .amount) (r .fed) a b) lu
 
   -- k tokens drawn are k tokens less lacking
   pub drawn-lacking : w < n → lacking n r ≡ lacking n r′ + k

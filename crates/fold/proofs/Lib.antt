@@ -1,0 +1,5 @@
+mod Links
+mod Walks
+mod Turns
+mod Stores
+mod Parts
