@@ -185,5 +185,7 @@ const struct kind kinds[] = {
     {"narrow middle", MADE_TO_BE_SLOW, SHUFFLED, order_middle},
     {"fence", FEW_PAIRS, SHUFFLED, order_fence},
     {"alternating paths", FEW_PAIRS, AS_MADE, order_paths},
+    {"small fans in", FEW_PAIRS, AS_MADE, order_small_fans_in},
+    {"small fans out", FEW_PAIRS, AS_MADE, order_small_fans_out},
 };
 const unsigned kind_count = sizeof kinds / sizeof *kinds;

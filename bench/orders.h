@@ -44,6 +44,8 @@ int order_add(struct order *order, unsigned earlier, unsigned later);
 // Makers of the kinds that are meant to be slow, in slow_orders.c.
 void order_fan_in(struct order *order, struct random *r);
 void order_fan_out(struct order *order, struct random *r);
+void order_small_fans_in(struct order *order, struct random *r);
+void order_small_fans_out(struct order *order, struct random *r);
 void order_alternating(struct order *order, struct random *r);
 void order_band(struct order *order, struct random *r);
 void order_two_rows(struct order *order, struct random *r);

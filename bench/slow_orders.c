@@ -62,6 +62,45 @@ void order_fan_out(struct order *order, struct random *r)
     join_all(order, small, MANY, big_takers, BIG);
 }
 
+// Eight small fans in: in each, small givers feed one taker that a big giver could feed; a second taker has the small ones alone.
+void order_small_fans_in(struct order *order, struct random *r)
+{
+    enum { FANS = 8, MANY = 26, PADDING = 3 };
+    unsigned small = FANS, padding = small + FANS * MANY, shared = padding + PADDING, late = shared + FANS;
+
+    (void)r;
+    order_start(order, MAX_EVENTS);
+    set_roles(order, 0, MAX_EVENTS, NEITHER);
+    set_roles(order, 0, FANS, BIG_GIVER);
+    set_roles(order, small, FANS * MANY, GIVER);
+    set_roles(order, shared, 2 * FANS, BIG_TAKER);
+    for (unsigned fan = 0; fan < FANS; fan++) {
+        order_add(order, fan, shared + fan);
+        join_all(order, small + fan * MANY, MANY, shared + fan, 1);
+        join_all(order, small + fan * MANY, MANY, late + fan, 1);
+        join_all(order, padding, PADDING, late + fan, 1);
+    }
+}
+
+// Eight small fans out: in each, a big giver could feed a row of takers; each has a small giver that one big taker wants.
+void order_small_fans_out(struct order *order, struct random *r)
+{
+    enum { FANS = 8, MANY = 15 };
+    unsigned small = FANS, takers = small + FANS * MANY, big_takers = takers + FANS * MANY;
+
+    (void)r;
+    order_start(order, MAX_EVENTS);
+    set_roles(order, 0, FANS, BIG_GIVER);
+    set_roles(order, small, FANS * MANY, GIVER);
+    set_roles(order, takers, FANS * MANY, TAKER);
+    set_roles(order, big_takers, FANS, BIG_TAKER);
+    for (unsigned i = 0; i < FANS * MANY; i++) {
+        order_add(order, i / MANY, takers + i);
+        order_add(order, small + i, takers + i);
+        order_add(order, small + i, big_takers + i / MANY);
+    }
+}
+
 // Giver layers and taker layers; a giver may feed four takers of its own layer and four of the next. Exchanges have to run
 // through all layers.
 void order_alternating(struct order *order, struct random *r)
