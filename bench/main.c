@@ -1,0 +1,98 @@
+// The benchmark: ratios of the archive's time to its peers' for each kind of sheet, the bar, and the growth.
+#include "growth.h"
+#include "measure.h"
+
+#include <stdio.h>
+#include <stdlib.h>
+
+enum { MAX_SHEETS = 99 };
+
+static const char *const group_titles[] = {
+    "Sheets at the limits",
+    "Sheets at the limits, made to be slow",
+    "Sheets with as many places and events but few pairs, made to be slow",
+};
+enum { GROUPS = sizeof group_titles / sizeof *group_titles };
+
+struct summary {
+    unsigned sheets, differ; // judged, and of these judged differently by different judges
+    int missed[GROUPS];      // whether a kind of the group misses the bar
+};
+
+static void print_head(enum group group)
+{
+    const char *peer = libraries_present() > 0 ? "fastest library" : "independent";
+
+    printf("\n%s\n%-24s %6s   %-17s %-17s %s\n", group_titles[group], "kind", "pairs", peer, "independent", "fastest library");
+    printf("%-24s %6s   %-8s %-8s %-8s %-8s\n", "", "", "median", "worst", "median", "worst");
+}
+
+static void print_fastest(const unsigned *wins, unsigned sheets)
+{
+    for (int i = 0; i < LIBRARIES; i++)
+        if (wins[i] > 0)
+            printf(" %s %u of %u", libraries[i].name, wins[i], sheets);
+    printf("\n");
+}
+
+static void judge_kind(const struct kind *kind, unsigned sheets, struct summary *summary)
+{
+    static struct sheet sheet;
+    double over_peer[MAX_SHEETS], over_independent[MAX_SHEETS];
+    unsigned wins[LIBRARIES] = {0}, pairs = 0;
+
+    for (unsigned i = 0; i < sheets; i++) {
+        sheet_of_kind(&sheet, kind, i);
+        struct times times = measure(&sheet, i);
+        over_peer[i] = ratio(&times);
+        over_independent[i] = times.archive / times.independent;
+        if (times.fastest >= 0)
+            wins[times.fastest]++;
+        if (!times.agree)
+            printf("differ: %s, sheet %u\n", kind->name, i);
+        summary->differ += !times.agree;
+        summary->sheets++;
+        pairs = (unsigned)sheet.bytes[28] + 256u * sheet.bytes[29];
+    }
+    double middle = median(over_peer, sheets), independent = median(over_independent, sheets);
+    int misses = middle > 1 || over_peer[sheets - 1] > 2;
+    printf("%-24s %6u   %-8.2f %-8.2f %-8.2f %-8.2f", kind->name, pairs, middle, over_peer[sheets - 1], independent,
+           over_independent[sheets - 1]);
+    print_fastest(wins, sheets);
+    summary->missed[kind->group] |= misses;
+}
+
+// Each group apart. Returns whether the bar is missed on sheets at the limits, which is what it is set for.
+static int print_bar(const struct summary *summary)
+{
+    printf("Bar: at the median of each kind at most the time of the fastest of three libraries, on no sheet more than twice that.\n");
+    if (!archive_present() || libraries_present() < LIBRARIES) {
+        printf("not tried: it needs the archive and all three libraries\n");
+        return 0;
+    }
+    for (int group = 0; group < GROUPS; group++)
+        printf("%s: %s\n", group_titles[group], summary->missed[group] ? "missed" : "met");
+    return summary->missed[AT_THE_LIMITS] || summary->missed[MADE_TO_BE_SLOW];
+}
+
+int main(int count, char **words)
+{
+    unsigned sheets = count > 1 ? (unsigned)atoi(words[1]) : 7;
+    struct summary summary = {0};
+
+    if (sheets < 1 || sheets > MAX_SHEETS) {
+        fprintf(stderr, "the number of sheets of each kind is 1 to %d\n", MAX_SHEETS);
+        return 2;
+    }
+    printf("Time of the archive for a whole sheet of %d places, over the peer's: %u sheets of each kind.\n", MAX_PLACES, sheets);
+    for (unsigned k = 0; k < kind_count; k++) {
+        if (k == 0 || kinds[k].group != kinds[k - 1].group)
+            print_head(kinds[k].group);
+        judge_kind(&kinds[k], sheets, &summary);
+    }
+    summary.differ += print_growth(sheets < 5 ? sheets : 5);
+
+    printf("\n%u sheets of these kinds, and those of the growth; judged differently: %u\n", summary.sheets, summary.differ);
+    int missed = print_bar(&summary);
+    return summary.differ > 0 || missed;
+}

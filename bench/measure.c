@@ -1,0 +1,135 @@
+// Measures one sheet: who judges it, how long it takes each of them, and whether they agree.
+#define _POSIX_C_SOURCE 199309L
+#include "measure.h"
+
+#include "independent.h"
+#include "peers.h"
+
+#include <stdlib.h>
+#include <string.h>
+#include <time.h>
+
+#ifdef HAVE_ARCHIVE
+uint32_t reedanchor_judge(const uint8_t *sheet, size_t length);
+#else
+#define reedanchor_judge NULL
+#endif
+
+#ifndef HAVE_LEMON
+#define lemon_least NULL
+#endif
+#ifndef HAVE_BOOST
+#define boost_least NULL
+#endif
+#ifndef HAVE_KOLMOGOROV
+#define kolmogorov_least NULL
+#endif
+
+enum { TURNS = 3 };
+
+static uint32_t (*const archive)(const uint8_t *sheet, size_t length) = reedanchor_judge;
+
+const struct library libraries[LIBRARIES] = {
+    {"LEMON", lemon_least},
+    {"Boost", boost_least},
+    {"Kolmogorov", kolmogorov_least},
+};
+
+int archive_present(void)
+{
+    return archive != NULL;
+}
+
+unsigned libraries_present(void)
+{
+    unsigned present = 0;
+
+    for (int i = 0; i < LIBRARIES; i++)
+        present += libraries[i].least != NULL;
+    return present;
+}
+
+// Processor time: on a busy machine the clock on the wall counts other programs too, and more so for a judge that takes longer.
+static double now(void)
+{
+    struct timespec t;
+
+    clock_gettime(CLOCK_PROCESS_CPUTIME_ID, &t);
+    return (double)t.tv_sec + 1e-9 * (double)t.tv_nsec;
+}
+
+static void keep_best(double *best, double began, int turn)
+{
+    double time = now() - began;
+
+    if (turn == 0 || time < *best)
+        *best = time;
+}
+
+// Writes the opening counts for this number; returns the answer that the till server has to get.
+static uint32_t choose_openings(struct sheet *sheet, const uint32_t *least, unsigned places, unsigned number)
+{
+    uint32_t opening[MAX_PLACES], answer = 0;
+
+    memcpy(opening, least, places * sizeof *least);
+    for (unsigned p = places; p-- > 0 && number % 2 == 1 && answer == 0;)
+        if (opening[p] > 0) {
+            opening[p]--;
+            answer = 1000 + p;
+        }
+    sheet_set_openings(sheet, opening, places);
+    return answer;
+}
+
+struct times measure(struct sheet *sheet, unsigned number)
+{
+    static struct plan plan;
+    uint32_t (*const judge)(const uint8_t *, size_t) = archive != NULL ? archive : independent_till; // the latter stands in
+    struct times times = {.fastest = -1, .agree = 1};
+    uint32_t least[MAX_PLACES], other[MAX_PLACES];
+
+    if (plan_read(sheet->bytes, sheet->length, &plan) != 0)
+        abort();
+    for (unsigned p = 0; p < plan.places; p++)
+        least[p] = independent_least(&plan, p, NULL);
+    uint32_t answer = choose_openings(sheet, least, plan.places, number);
+
+    for (int turn = 0; turn < TURNS; turn++) {
+        double began = now();
+        times.agree &= judge(sheet->bytes, sheet->length) == answer;
+        keep_best(&times.archive, began, turn);
+        began = now();
+        times.agree &= independent_till(sheet->bytes, sheet->length) == answer;
+        keep_best(&times.independent, began, turn);
+        for (int i = 0; i < LIBRARIES; i++) {
+            if (libraries[i].least == NULL)
+                continue;
+            began = now();
+            libraries[i].least(&plan, other);
+            keep_best(&times.library[i], began, turn);
+            times.agree &= memcmp(least, other, plan.places * sizeof *least) == 0;
+        }
+    }
+    for (int i = 0; i < LIBRARIES; i++)
+        if (libraries[i].least != NULL && (times.fastest < 0 || times.library[i] < times.library[times.fastest]))
+            times.fastest = i;
+    return times;
+}
+
+double ratio(const struct times *times)
+{
+    return times->archive / (times->fastest < 0 ? times->independent : times->library[times->fastest]);
+}
+
+static int compare(const void *a, const void *b)
+{
+    double x = *(const double *)a, y = *(const double *)b;
+
+    return (x > y) - (x < y);
+}
+
+double median(double *row, unsigned count)
+{
+    qsort(row, count, sizeof *row, compare);
+    return count % 2 == 1 ? row[count / 2] : (row[count / 2 - 1] + row[count / 2]) / 2;
+}

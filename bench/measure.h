@@ -1,0 +1,35 @@
+// Times of the archive and its peers on one sheet, and whether they agree.
+#ifndef MEASURE_H
+#define MEASURE_H
+
+#include "sheets.h"
+
+enum { LIBRARIES = 3 };
+
+struct library {
+    const char *name;
+    void (*least)(const struct plan *plan, uint32_t *least); // null where it isn't installed
+};
+
+extern const struct library libraries[LIBRARIES];
+unsigned libraries_present(void);
+int archive_present(void);
+
+struct times {
+    double archive, independent; // the whole sheet, from its bytes
+    double library[LIBRARIES];   // the flows of all places; before and skeleton are given
+    int fastest;                 // the fastest library, or -1 where none is installed
+    int agree;                   // whether all counts and verdicts are the same
+};
+
+// Gives the sheet opening counts that are just enough, or at odd numbers just one too few at the last place that needs any, and
+// judges it with all. Each time is the best of a few; all take turns.
+struct times measure(struct sheet *sheet, unsigned number);
+
+// The archive's time over the fastest library's, or over the independent judge's where no library is installed.
+double ratio(const struct times *times);
+
+// Of a row that gets sorted.
+double median(double *row, unsigned count);
+
+#endif

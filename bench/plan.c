@@ -1,0 +1,159 @@
+// Reads a sheet into plain arrays, with every fault of a sheet, and works out "before" and the skeleton.
+#include "plan.h"
+
+#include <stdbool.h>
+#include <string.h>
+
+enum { CONTENTS = 32 };
+
+static uint32_t get16(const uint8_t *at)
+{
+    return (uint32_t)at[0] | (uint32_t)at[1] << 8;
+}
+
+static uint32_t get32(const uint8_t *at)
+{
+    return get16(at) | get16(at + 2) << 16;
+}
+
+// Faults 1 to 4; leaves the four counts in the plan and the starts of the bodies in `start`.
+static uint32_t read_contents(const uint8_t *sheet, size_t length, struct plan *plan, size_t start[4])
+{
+    static const uint32_t most[4] = {MAX_PLACES, MAX_TRANSITIONS, MAX_EVENTS, MAX_PAIRS};
+    uint32_t count[4];
+
+    if (length < CONTENTS)
+        return 1;
+    for (int i = 0; i < 4; i++) {
+        count[i] = get32(sheet + 8 * i + 4);
+        if (count[i] > most[i])
+            return 2;
+    }
+    const size_t size[4] = {4, 4 * (size_t)count[0], 2, 4};
+    size_t end = CONTENTS;
+    for (int i = 0; i < 4; i++) {
+        if (get32(sheet + 8 * i) != end)
+            return 3;
+        start[i] = end;
+        end += count[i] * size[i];
+    }
+    if (length != end)
+        return 4;
+    plan->places = count[0];
+    plan->transitions = count[1];
+    plan->events = count[2];
+    plan->pairs = count[3];
+    return 0;
+}
+
+// Faults 5 and 6.
+static uint32_t read_net(const uint8_t *openings, const uint8_t *weights, struct plan *plan)
+{
+    for (unsigned p = 0; p < plan->places; p++) {
+        plan->opening[p] = get32(openings + 4 * p);
+        if (plan->opening[p] > MAX_OPENING)
+            return 5;
+    }
+    for (unsigned t = 0; t < plan->transitions; t++) {
+        for (unsigned p = 0; p < 2 * plan->places; p++) {
+            uint32_t weight = get16(weights);
+            weights += 2;
+            if (weight > MAX_WEIGHT)
+                return 6;
+            if (p < plan->places)
+                plan->takes[t][p] = (uint16_t)weight;
+            else
+                plan->gives[t][p - plan->places] = (uint16_t)weight;
+        }
+    }
+    return 0;
+}
+
+// Faults 7 to 10, each looked for in the whole body before the next one.
+static uint32_t read_events(const uint8_t *labels, const uint8_t *pairs, struct plan *plan)
+{
+    static uint8_t given[MAX_EVENTS][MAX_EVENTS];
+    bool self = false, twice = false;
+
+    for (unsigned e = 0; e < plan->events; e++) {
+        uint32_t label = get16(labels + 2 * e);
+        if (label >= plan->transitions)
+            return 7;
+        plan->label[e] = (uint16_t)label;
+    }
+    memset(given, 0, sizeof given);
+    for (unsigned i = 0; i < plan->pairs; i++) {
+        uint32_t a = get16(pairs + 4 * i), b = get16(pairs + 4 * i + 2);
+        if (a >= plan->events || b >= plan->events)
+            return 8;
+        self = self || a == b;
+        twice = twice || given[a][b];
+        given[a][b] = 1;
+        plan->earlier[i] = (uint16_t)a;
+        plan->later[i] = (uint16_t)b;
+    }
+    return self ? 9 : twice ? 10 : 0;
+}
+
+// Fault 11, by taking away events with nothing left before them; `before` grows along that order.
+static uint32_t work_out_before(struct plan *plan)
+{
+    unsigned waiting[MAX_EVENTS] = {0}, ready[MAX_EVENTS], found = 0;
+
+    memset(plan->before, 0, sizeof plan->before);
+    for (unsigned i = 0; i < plan->pairs; i++)
+        waiting[plan->later[i]]++;
+    for (unsigned e = 0; e < plan->events; e++)
+        if (waiting[e] == 0)
+            ready[found++] = e;
+    for (unsigned done = 0; done < found; done++) {
+        unsigned a = ready[done];
+        for (unsigned i = 0; i < plan->pairs; i++) {
+            if (plan->earlier[i] != a)
+                continue;
+            unsigned b = plan->later[i];
+            plan->before[a][b] = 1;
+            for (unsigned e = 0; e < plan->events; e++)
+                plan->before[e][b] |= plan->before[e][a];
+            if (--waiting[b] == 0)
+                ready[found++] = b;
+        }
+    }
+    return found < plan->events ? 11 : 0;
+}
+
+static bool event_between(const struct plan *plan, unsigned a, unsigned b)
+{
+    for (unsigned e = 0; e < plan->events; e++)
+        if (plan->before[a][e] && plan->before[e][b])
+            return true;
+    return false;
+}
+
+static void work_out_skeleton(struct plan *plan)
+{
+    plan->arcs = 0;
+    for (unsigned i = 0; i < plan->pairs; i++) {
+        if (event_between(plan, plan->earlier[i], plan->later[i]))
+            continue;
+        plan->arc_from[plan->arcs] = plan->earlier[i];
+        plan->arc_to[plan->arcs] = plan->later[i];
+        plan->arcs++;
+    }
+}
+
+uint32_t plan_read(const uint8_t *sheet, size_t length, struct plan *plan)
+{
+    size_t start[4];
+    uint32_t fault = read_contents(sheet, length, plan, start);
+
+    if (fault == 0)
+        fault = read_net(sheet + start[0], sheet + start[1], plan);
+    if (fault == 0)
+        fault = read_events(sheet + start[2], sheet + start[3], plan);
+    if (fault == 0)
+        fault = work_out_before(plan);
+    if (fault == 0)
+        work_out_skeleton(plan);
+    return fault;
+}

@@ -1,0 +1,50 @@
+// A plan in plain arrays, as read from a sheet, with its order worked out once.
+#ifndef PLAN_H
+#define PLAN_H
+
+#include <stddef.h>
+#include <stdint.h>
+
+#define MAX_PLACES 64
+#define MAX_TRANSITIONS 64
+#define MAX_EVENTS 256
+#define MAX_PAIRS 1024
+#define MAX_OPENING 1000000
+#define MAX_WEIGHT 1000
+#define MAX_SHEET 21280
+
+struct plan {
+    unsigned places, transitions, events, pairs;
+    uint32_t opening[MAX_PLACES];
+    uint16_t takes[MAX_TRANSITIONS][MAX_PLACES];
+    uint16_t gives[MAX_TRANSITIONS][MAX_PLACES];
+    uint16_t label[MAX_EVENTS];
+    uint16_t earlier[MAX_PAIRS], later[MAX_PAIRS];
+    uint8_t before[MAX_EVENTS][MAX_EVENTS]; // before[a][b]: a is before b
+    unsigned arcs;                          // the skeleton pairs alone
+    uint16_t arc_from[MAX_PAIRS], arc_to[MAX_PAIRS];
+};
+
+#ifdef __cplusplus
+extern "C" {
+#endif
+
+// Reads a sheet. Returns 0, or the number of its lowest fault, 1 to 11; the plan is then of no use.
+uint32_t plan_read(const uint8_t *sheet, size_t length, struct plan *plan);
+
+// What event `e` takes from a place and gives to it.
+static inline unsigned plan_takes(const struct plan *plan, unsigned e, unsigned place)
+{
+    return plan->takes[plan->label[e]][place];
+}
+
+static inline unsigned plan_gives(const struct plan *plan, unsigned e, unsigned place)
+{
+    return plan->gives[plan->label[e]][place];
+}
+
+#ifdef __cplusplus
+}
+#endif
+
+#endif
