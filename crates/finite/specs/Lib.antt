@@ -1,5 +1,6 @@
 pub mod Bounded
 pub mod Count
+pub mod Filled
 pub mod Row
 pub mod Search
 pub mod Subset

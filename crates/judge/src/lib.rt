@@ -2,6 +2,7 @@
 ghost use Prim.Native.Nat.{_<_, _≤_};
 ghost use mathlib.Core.Path.{_≡_};
 ghost use lib.ListN.{length, set};
+ghost use Rattle.finite.specs.Filled.{Filled};
 ghost use Rattle.marks.specs.Marks.{HasRow};
 ghost use Rattle.tokenflow.specs.Rows.{rows, Sized};
 ghost use Rattle.search.specs.Searched.{Room};
@@ -9,7 +10,7 @@ ghost use Rattle.sheet.specs.Table.{placesOf, transitionsOf, eventsOf};
 ghost use Rattle.sheet.specs.Items.{planOf};
 ghost use Rattle.sheet.specs.Faultless.{Faultless};
 ghost use Rattle.closure.specs.PlanRows.{Predecessors};
-ghost use Rattle.judge.specs.Counts.{Counted, missingAt};
+ghost use Rattle.judge.specs.Counts.{missingAt};
 use lookup::Place;
 use place::judge_place;
 
@@ -89,7 +90,7 @@ pub fn count_places(
     requires { ⌜ Sized (rows (now amount) (now fed) (now free) (now share)) ⌝ }
     requires { ⌜ HasRow (now spare) 0 × Room (now takers) (now givers) (now queue) (now origin) (now via) ⌝ }
     requires { ⌜ places ≤ length (now row) ⌝ }
-    ensures { λ _. ⌜ Counted (missingAt (now (s .entry))) places (now (row .entry)) (now (row .exit)) ⌝ }
+    ensures { λ _. ⌜ Filled (missingAt (now (s .entry))) places (now (row .entry)) (now (row .exit)) ⌝ }
 {
     for p in 0..places {
         count_place(

@@ -7,6 +7,7 @@ use mathlib.Core.Path.{_≡_, refl, ap, _∙_}
 use lib.Dec.{T, eqb}
 use lib.ListN.{length, getD, replicate}
 use Rattle.finite.specs.Bounded.{any}
+use Rattle.finite.specs.Row.{zeros}
 
 -- bit k of the word w
 unfoldable pub bit : ℕ → ℕ → Bool
@@ -56,12 +57,7 @@ pub bit-none : (k : ℕ) → bit 0 k ≡ false
 unfolding bit
 bit-none k = ap (λ (x : ℕ). eqb (x % 2) 1) (zero-div (2 ^ k))
 
-getD-zeros : (n i : ℕ) → _≡_ {A = ℕ} (getD (replicate n 0) i 0) 0
-getD-zeros zero i = refl
-getD-zeros (suc n) zero = refl
-getD-zeros (suc n) (suc i) = getD-zeros n i
-
 -- words of 0 have no marks
 pub none-marked : (n u v : ℕ) → marked (replicate n 0) u v ≡ false
 unfolding marked
-none-marked n u v = ap (λ (w : ℕ). bit w (v % 32)) (getD-zeros n (wordOf u v)) ∙ bit-none (v % 32)
+none-marked n u v = ap (λ (w : ℕ). bit w (v % 32)) (zeros n (wordOf u v)) ∙ bit-none (v % 32)

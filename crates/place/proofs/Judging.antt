@@ -14,7 +14,7 @@ use Rattle.tokenflow.specs.Rows.{Rows}
 use Rattle.tokenflow.specs.Flowing.{Flowing, Kept, lacking, takenIn}
 use Rattle.drawing.specs.Moves.{Moved, Order}
 use Rattle.settle.specs.Finished.{Finished}
-use Rattle.place.specs.Filled.{Small}
+use Rattle.place.specs.Small.{Small}
 use Rattle.place.specs.Settled.{Judged, place-missing, place-smallest, rows-flow}
 use Rattle.place.specs.Start.{Start, start-flows, start-takes}
 

@@ -1,32 +1,13 @@
--- A row that is filled number by number.
-use Prim.Native.Nat.{ℕ, _+_, _*_, _/_, _%_, _≤_, _<_}
+-- Sums of rows, one number after another, and words of 0.
+use Prim.Native.Nat.{ℕ, _+_, _*_, _/_, _%_, _<_}
 use native.Mathlib.Omega.{arith}
-use native.Mathlib.Numerals.{add-one}
 use mathlib.Core.List.{List}
-use mathlib.Core.Path.{_≡_, refl, sym, ap, subst, _∙_}
-use lib.ListN.{length, getD, set, length-set}
-use lib.Seq.{getD-set-same, getD-set-other}
+use mathlib.Core.Path.{_≡_, refl, ap, subst, _∙_}
 use lib.Dec.{T}
-use Rattle.finite.specs.Bounded.{below-suc}
-use Rattle.marks.specs.Marks.{marked, bit, bit-none}
+use lib.ListN.{getD}
+use Rattle.finite.specs.Filled.{Filled}
 use Rattle.finite.specs.Sum.{sum, sumOf, sum-more}
-use Rattle.place.specs.Filled.{Filled, Small}
-
-pub filled-none : (f : ℕ → ℕ) (row : List ℕ) → Filled f 0 row row
-filled-none f row = record { size = refl; numbers = λ i l. absurd (omega arith) }
-
-pub filled-more : (f : ℕ → ℕ) (k : ℕ) (old row : List ℕ) → k < length row → Filled f k old row → Filled f (k + 1) old (set row k (f k))
-filled-more f k old row l h =
-    record {
-      size = length-set row k (f k) ∙ h .size;
-      numbers = λ i m.
-          below-suc
-          k
-          i
-          (subst (λ (z : ℕ). i < z) (add-one k) m)
-          (λ low. getD-set-other row k i (f k) 0 (λ e. omega arith) ∙ h .numbers i low)
-          (λ e. subst (λ (z : ℕ). getD (set row k (f k)) z 0 ≡ f z) (sym e) (getD-set-same row k (f k) 0 l));
-    }
+use Rattle.marks.specs.Marks.{marked, bit, bit-none}
 
 pub sum-one-more : (row : List ℕ) (i : ℕ) → sumOf row (i + 1) ≡ sumOf row i + getD row i 0
 unfolding sumOf

@@ -1,3 +1,3 @@
 pub mod Start
 pub mod Settled
-pub mod Filled
+pub mod Small

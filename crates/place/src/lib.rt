@@ -2,6 +2,7 @@
 ghost use Prim.Native.Nat.{_-_, _<_, _≤_};
 ghost use mathlib.Core.Path.{_≡_};
 ghost use lib.ListN.{length, set};
+ghost use Rattle.finite.specs.Filled.{Filled};
 ghost use Rattle.finite.specs.Sum.{sumOf};
 ghost use Rattle.sheet.specs.Table.{placesOf, transitionsOf, eventsOf};
 ghost use Rattle.sheet.specs.Items.{takesAt, givesAt, labelAt, netOf, planOf};
@@ -14,7 +15,7 @@ ghost use Rattle.drawing.specs.Moves.{Moved, Order};
 ghost use Rattle.closure.specs.PlanRows.{Predecessors};
 ghost use Rattle.search.specs.Searched.{Room};
 ghost use Rattle.settle.specs.Finished.{Finished};
-ghost use Rattle.place.specs.Filled.{Filled, Small};
+ghost use Rattle.place.specs.Small.{Small};
 ghost use Rattle.place.specs.Start.{Start};
 ghost use Rattle.place.specs.Settled.{Judged};
 use drawing::draw_all;

@@ -28,7 +28,7 @@ unfoldable pub tokens : Net → Plan → ℕ → Set → ℤ
 tokens N P p D =
     pos (N .opening p) +ℤ pos (over (P .events) D (givenBy N P p)) -ℤ pos (over (P .events) D (takenBy N P p))
 
--- The lack of a done set is the takes of its front − those tokens.
+-- The lack of a done set is the takes of its front − those tokens: the deficit of the step that the front is.
 unfoldable pub lack : Net → Plan → ℕ → Set → ℤ
 lack N P p D = pos (over (P .events) (front P D) (takenBy N P p)) -ℤ tokens N P p D
 
@@ -37,7 +37,8 @@ abbrev pub above0 : ℤ → ℕ
 above0 (pos n) = n
 above0 (negsuc n) = 0
 
--- The missing count of a place is the greatest lack over all done sets, or 0 if none is above 0.
+-- The missing count of a place is the greatest lack over all done sets, or 0 if none is above 0. In the field's terms, the least
+-- addition to the initial marking of the place with which the plan is executable there.
 unfoldable pub missing : Net → Plan → ℕ → ℕ
 missing N P p = greatest (P .events) (λ D. on (prefix P D) (above0 (lack N P p D)))
 

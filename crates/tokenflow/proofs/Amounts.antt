@@ -12,6 +12,7 @@ use lib.ListN.{length, getD, set, length-set}
 use lib.Seq.{getD-set-same, getD-set-other}
 use mir.Facts.{eqb-no, yes-eqb, and-yes, yes-and, or-yes}
 use Rattle.finite.specs.Bounded.{decide, same, yes-or-left, yes-or-right}
+use Rattle.finite.specs.Row.{raised-at}
 use Rattle.finite.specs.Sum.{on, on-yes, on-no, on-zero}
 use Rattle.marks.specs.Marks.{marked, MarkAdded, MarkRemoved}
 use Rattle.tokenflow.specs.Rows.{fedBy, Exact, Raised, Lowered}
@@ -128,15 +129,7 @@ lowered row i k x l e =
 
 -- the same row with k more at i, seen from the larger one
 pub raised-back : (row : List ℕ) (i k : ℕ) → i < length row → Lowered (set row i (getD row i 0 + k)) row i k
-raised-back row i k l =
-    record {
-      size = sym (length-set row i (getD row i 0 + k));
-      less = λ a.
-          ⊎-elim
-          (λ t. subst (λ (b : ℕ). getD (set row i (getD row i 0 + k)) b 0 ≡ getD row b 0 + on (eqb i b) k) (eqb→eq i a t) (omega (arith, getD-set-same row i (getD row i 0 + k) 0 l, on-yes (eqb i i) k (eqb-refl i))))
-          (λ t. omega (arith, getD-set-other row i a (getD row i 0 + k) 0 (λ h. eqb-no t (sym h)), on-no (eqb i a) k (T-not (eqb i a) t)))
-          (decide (eqb i a));
-    }
+raised-back row i k l = record { size = sym (length-set row i (getD row i 0 + k)); less = raised-at row i k l }
 
 -- the amounts before k was taken away where more than k stood, seen from the smaller ones
 pub lowered-known : (amount fed : List ℕ) (u w k : ℕ) → u < 256 → w < 256 → 65536 ≤ length amount → T (marked fed u w) → k ≤ getD amount (u * 256 + w) 0

@@ -4,21 +4,21 @@ use native.Mathlib.Omega.{arith}
 use mathlib.Core.Path.{_≡_, refl, sym, subst, _∙_}
 use borrow.Author.Needs.{needs}
 use lib.ListN.{length}
-use Rattle.judge.specs.Counts.{Counted, missingAt}
-use Rattle.judge.proofs.Counting.{counted-none, counted-more}
+use Rattle.finite.specs.Filled.{Filled, filled-none, filled-more}
+use Rattle.judge.specs.Counts.{missingAt}
 use Rattle.judge.proofs.count_places.Statement.{statement}
 use Rattle.judge.proofs.count_places.Tie as tie
 
 abbrev Inv-loop : tie.InvT-loop
 Inv-loop s places transitions n pred order amount₀ fed₀ free₀ share₀ spare₀ takers₀ givers₀ queue₀ origin₀ via₀ row₀ p₀ amount fed free share spare takers givers queue origin via row p =
-    (p ≤ places) × Counted (missingAt s) p row₀ row × (length amount ≡ length amount₀) × (length fed ≡ length fed₀) × (length free ≡ length free₀) × (length share ≡ length share₀) × (length spare ≡ length spare₀) × (length takers ≡ length takers₀) × (length givers ≡ length givers₀) × (length queue ≡ length queue₀) × (length origin ≡ length origin₀) × (length via ≡ length via₀)
+    (p ≤ places) × Filled (missingAt s) p row₀ row × (length amount ≡ length amount₀) × (length fed ≡ length fed₀) × (length free ≡ length free₀) × (length share ≡ length share₀) × (length spare ≡ length spare₀) × (length takers ≡ length takers₀) × (length givers ≡ length givers₀) × (length queue ≡ length queue₀) × (length origin ≡ length origin₀) × (length via ≡ length via₀)
 
 abbrev μ-loop : tie.MeasureT-loop
 μ-loop s places transitions n pred order amount₀ fed₀ free₀ share₀ spare₀ takers₀ givers₀ queue₀ origin₀ via₀ row₀ p₀ amount fed free share spare takers givers queue origin via row p =
     places - p
 
 loop-holds : tie.Need-loop-holds Inv-loop μ-loop
-loop-holds c = (zero-le, counted-none _ _, refl, refl, refl, refl, refl, refl, refl, refl, refl, refl)
+loop-holds c = (zero-le, filled-none _ _, refl, refl, refl, refl, refl, refl, refl, refl, refl, refl)
 
 count-place-requires : tie.Need-count-place-requires Inv-loop μ-loop
 count-place-requires c κs =
@@ -54,7 +54,7 @@ loop-again c =
     let l = c .before .before .before .before .before .before .before .before .before .before .before .before .before .before .before .before .before .before .before .before .before .before .before .before .before .before .before .before .before .before .before .before .before .before .before .loop in
     let d = c .before .before .before .before .before .before .before .before .before .before .before .before .before .before .before .before .before .before .before .before .before .before .count-place in (
       omega (arith, c .before .before .before .before .before .before .before .before .before .before .before .before .before .before .before .before .before .before .before .before .before .before .before .before .before .before .before .before .before .before .before .before .before .before .loop-test .taken),
-      subst (Counted (missingAt (s .args .s .now)) (l .p + 1) (s .args .row .now)) (sym (d .ensures)) (counted-more _ (l .p) (s .args .row .now) (l .row) (omega (arith, c .before .before .before .before .before .before .before .before .before .before .before .before .before .before .before .before .before .before .before .before .before .before .before .before .before .before .before .before .before .before .before .before .before .before .loop-test .taken, s .pre .1 .1 .1 .1 .1, l .inv .1 .size)) (l .inv .1)),
+      subst (Filled (missingAt (s .args .s .now)) (l .p + 1) (s .args .row .now)) (sym (d .ensures)) (filled-more _ (l .p) (s .args .row .now) (l .row) (omega (arith, c .before .before .before .before .before .before .before .before .before .before .before .before .before .before .before .before .before .before .before .before .before .before .before .before .before .before .before .before .before .before .before .before .before .before .loop-test .taken, s .pre .1 .1 .1 .1 .1, l .inv .1 .size)) (l .inv .1)),
       d .kept .1 .1 .1 .1 .1 .1 .1 .0 ∙ l .inv .2,
       d .kept .1 .1 .1 .1 .1 .1 .1 .1 .0 ∙ l .inv .3,
       d .kept .1 .1 .1 .1 .1 .1 .1 .1 .1 .0 ∙ l .inv .4,
@@ -104,7 +104,7 @@ returns : tie.Need-returns Inv-loop μ-loop
 returns c =
     let l = c .before .loop in
     let e : l .p ≡ c .before .before .before .before .before .before .before .before .before .before .before .before .before .before .before .before .args .places = omega arith in
-    subst (λ (k : ℕ). Counted (missingAt (c .before .before .before .before .before .before .before .before .before .before .before .before .before .before .before .before .args .s .now)) k (c .before .before .before .before .before .before .before .before .before .before .before .before .before .before .before .before .args .row .now) (l .row)) e (l .inv .1)
+    subst (λ (k : ℕ). Filled (missingAt (c .before .before .before .before .before .before .before .before .before .before .before .before .before .before .before .before .args .s .now)) k (c .before .before .before .before .before .before .before .before .before .before .before .before .before .before .before .before .args .row .now) (l .row)) e (l .inv .1)
 
 pub count-places-spec : {M : Type 1} → statement M
 count-places-spec =

@@ -1,12 +1,11 @@
 -- `place::fill` meets its contract.
-use Prim.Native.Nat.{_+_, _-_, _≤_, zero-le}
+use Prim.Native.Nat.{ℕ, _+_, _-_, _≤_, zero-le}
 use native.Mathlib.Omega.{arith}
-use mathlib.Core.Path.{sym, subst}
+use mathlib.Core.Path.{_≡_, sym, subst}
 use borrow.Author.Needs.{needs}
 use Rattle.plan.specs.Net.{takenBy, givenBy}
 use Rattle.sheet.specs.Items.{netOf, planOf}
-use Rattle.place.specs.Filled.{Filled}
-use Rattle.place.proofs.Rows.{filled-none, filled-more}
+use Rattle.finite.specs.Filled.{Filled, filled-none, filled-more}
 use Rattle.place.proofs.fill.Statement.{statement}
 use Rattle.place.proofs.fill.Tie as tie
 
@@ -62,9 +61,11 @@ same-length-2 c = c .before .loop .inv .2 .size
 
 returns : tie.Need-returns Inv-loop μ-loop
 returns c =
-    let l = c .before .loop in (
-      record { size = l .inv .1 .size; numbers = λ i h. l .inv .1 .numbers i (omega arith) },
-      record { size = l .inv .2 .size; numbers = λ i h. l .inv .2 .numbers i (omega arith) },
+    let a = c .before .before .before .before .before .args in
+    let l = c .before .loop in
+    let e : l .v ≡ a .n = omega arith in (
+      subst (λ (k : ℕ). Filled (givenBy (netOf (a .s .now)) (planOf (a .s .now)) (a .p .0)) k (a .free .now) (l .free)) e (l .inv .1),
+      subst (λ (k : ℕ). Filled (takenBy (netOf (a .s .now)) (planOf (a .s .now)) (a .p .0)) k (a .share .now) (l .share)) e (l .inv .2),
     )
 
 pub fill-spec : {M : Type 1} → statement M

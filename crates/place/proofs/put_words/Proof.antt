@@ -1,9 +1,9 @@
 -- `place::put_words` meets its contract.
-use Prim.Native.Nat.{_-_, _≤_, zero-le}
+use Prim.Native.Nat.{ℕ, _-_, _≤_, zero-le}
 use native.Mathlib.Omega.{arith}
+use mathlib.Core.Path.{_≡_, subst}
 use borrow.Author.Needs.{needs}
-use Rattle.place.specs.Filled.{Filled}
-use Rattle.place.proofs.Rows.{filled-none, filled-more}
+use Rattle.finite.specs.Filled.{Filled, filled-none, filled-more}
 use Rattle.place.proofs.put_words.Statement.{statement}
 use Rattle.place.proofs.put_words.Tie as tie
 
@@ -38,7 +38,11 @@ same-length : tie.Need-same-length Inv-loop μ-loop
 same-length c = c .before .loop .inv .1 .size
 
 returns : tie.Need-returns Inv-loop μ-loop
-returns c = let l = c .before .loop in record { size = l .inv .1 .size; numbers = λ i h. l .inv .1 .numbers i (omega arith) }
+returns c =
+    let a = c .before .before .args in
+    let l = c .before .loop in
+    let e : l .i ≡ a .count = omega arith in
+    subst (λ (k : ℕ). Filled (λ _. a .x) k (a .rows .now) (l .rows)) e (l .inv .1)
 
 pub put-words-spec : {M : Type 1} → statement M
 put-words-spec =
