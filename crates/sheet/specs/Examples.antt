@@ -67,6 +67,8 @@ examples =
     ∷ (faultOf (desk 2 (0 ∷ 0 ∷ 1 ∷ 0 ∷ 0 ∷ 0 ∷ 1 ∷ 0 ∷ [])), 10)
     -- (0, 1), (1, 0)
     ∷ (faultOf (desk 2 (0 ∷ 0 ∷ 1 ∷ 0 ∷ 1 ∷ 0 ∷ 0 ∷ 0 ∷ [])), 11)
+    -- (0, 1), (1, 2), (2, 0)
+    ∷ (faultOf (desk 3 (0 ∷ 0 ∷ 1 ∷ 0 ∷ 1 ∷ 0 ∷ 2 ∷ 0 ∷ 2 ∷ 0 ∷ 0 ∷ 0 ∷ [])), 11)
     -- the lowest number that applies: of 2 and 3, 3 and 4, 5 and 7, 7 and 8, 8 and 9, 10 and 11
     ∷ (faultOf (table 33 65 44 2 68 3 74 1), 2)
     ∷ (faultOf (table 33 3 44 2 68 3 74 1), 3)
