@@ -16,9 +16,9 @@ use Rattle.drawing.specs.Moves.{DrawnMost}
 use Rattle.search.specs.Row.{In}
 use Rattle.search.specs.Trail.{_!_, Takers, Givers, takersOf, giversOf, FedBy, MetBy}
 use Rattle.exchange.specs.Exchange.{Exchanged}
-use Rattle.exchange.specs.Walk.{Route, Ready, Trodden, IsReady}
+use Rattle.exchange.specs.Walk.{Route, Ready, TrailRows, IsReady}
 
-module _ (n : ℕ) (pred : List ℕ) (m : Trodden) (r : Rows) (u : ℕ) (row : List ℕ) (tail : ℕ) (met : List ℕ) (h : IsReady n pred m r u row tail met) where
+module _ (n : ℕ) (pred : List ℕ) (m : TrailRows) (r : Rows) (u : ℕ) (row : List ℕ) (tail : ℕ) (met : List ℕ) (h : IsReady n pred m r u row tail met) where
   t : Takers
   t = takersOf row (m .queue) (m .origin) tail
 
@@ -81,7 +81,7 @@ pub drew : (n : ℕ) (pred : List ℕ) (r r′ : Rows) (u w k : ℕ) → DrawnMo
 drew n pred r r′ u w k d a b = omega (arith, d .most, d .less)
 
 -- the same, at the place `at` of the taker w, for a taker that lacks nothing
-module _ (n : ℕ) (pred : List ℕ) (m : Trodden) (r : Rows) (u at w : ℕ) (here : at ≡ m .via ! u) (stands : w ≡ m .queue ! at) (none : getD (r .share) w 0 ≡ 0) where
+module _ (n : ℕ) (pred : List ℕ) (m : TrailRows) (r : Rows) (u at w : ℕ) (here : at ≡ m .via ! u) (stands : w ≡ m .queue ! at) (none : getD (r .share) w 0 ≡ 0) where
   place : w ≡ m .queue ! (m .via ! u)
   place = stands ∙ ap (λ (z : ℕ). m .queue ! z) here
 

@@ -27,28 +27,28 @@ pub record Ready (r : Rows) (t : Takers) (g : Givers) (u : ℕ) : Type 0 where
   pub reason : (i : ℕ) → i ≤ g .via ! u → (0 < getD (r .share) (t .queue ! i) 0) ⊎ FedBy (r .fed) t g i
 
 -- The rows of a search that a walk reads: the queue, the origins of its places, and the places by way of which givers were met.
-pub record Trodden : Type 0 where
+pub record TrailRows : Type 0 where
   pub queue : List ℕ
   pub origin : List ℕ
   pub via : List ℕ
 
-abbrev pub trodden : List ℕ → List ℕ → List ℕ → Trodden
-trodden q o v = record { queue = q; origin = o; via = v }
+abbrev pub trailRows : List ℕ → List ℕ → List ℕ → TrailRows
+trailRows q o v = record { queue = q; origin = o; via = v }
 
 -- A giver that is ready by these rows, whatever sets and however many takers the search listed.
-abbrev pub IsReady : ℕ → List ℕ → Trodden → Rows → ℕ → List ℕ → ℕ → List ℕ → Type 0
+abbrev pub IsReady : ℕ → List ℕ → TrailRows → Rows → ℕ → List ℕ → ℕ → List ℕ → Type 0
 IsReady n pred m r u row tail met =
     Route n pred (takersOf row (m .queue) (m .origin) tail) (giversOf met (m .via))
     × Ready r (takersOf row (m .queue) (m .origin) tail) (giversOf met (m .via)) u
 
 -- What a step from the giver u says: it drew tokens for a taker that lacked some; it is stuck, which no ready giver is; or it goes
 -- on at v, by way of an earlier place, and v is ready if u was.
-abbrev pub Stepped : ℕ → List ℕ → Trodden → Rows → Rows → ℕ → Step → Type 0
+abbrev pub Stepped : ℕ → List ℕ → TrailRows → Rows → Rows → ℕ → Step → Type 0
 Stepped n pred m r r′ u Drew = lacking n r′ < lacking n r
 Stepped n pred m r r′ u Stuck = (row : List ℕ) (tail : ℕ) (met : List ℕ) → IsReady n pred m r u row tail met → ⊥
 Stepped n pred m r r′ u (On v) = (v < n) × (m .via ! v < m .via ! u) × ((row : List ℕ) (tail : ℕ) (met : List ℕ) → IsReady n pred m r u row tail met → IsReady n pred m r′ v row tail met)
 
 -- What a walk from the giver u says: it drew tokens, or u was not ready.
-abbrev pub Walked : ℕ → List ℕ → Trodden → Rows → Rows → ℕ → Bool → Type 0
+abbrev pub Walked : ℕ → List ℕ → TrailRows → Rows → Rows → ℕ → Bool → Type 0
 Walked n pred m r r′ u true = lacking n r′ < lacking n r
 Walked n pred m r r′ u false = (row : List ℕ) (tail : ℕ) (met : List ℕ) → IsReady n pred m r u row tail met → ⊥

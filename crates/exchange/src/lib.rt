@@ -9,7 +9,7 @@ ghost use Rattle.tokenflow.specs.Flowing.{Flowing};
 ghost use Rattle.drawing.specs.Moves.{Moved};
 ghost use Rattle.search.specs.Trail.{_!_};
 ghost use Rattle.exchange.specs.Exchange.{Exchanged};
-ghost use Rattle.exchange.specs.Walk.{trodden, Stepped, Walked};
+ghost use Rattle.exchange.specs.Walk.{trailRows, Stepped, Walked};
 use drawing::draw_most;
 use drawing::least;
 use tokenflow::draw;
@@ -69,7 +69,7 @@ fn swap(
     requires { ⌜ (u < n) × (w < n) × (at < 256) × (at ≡ now via ! u) × (w ≡ now queue ! at) ⌝ }
     requires { ⌜ T (marked (now pred) w u) × (0 < now free ! u) × (now share ! w ≡ 0) ⌝ }
     ensures { λ r. ⌜ Moved n (now (pred .entry)) (rows (now (amount .entry)) (now (fed .entry)) (now (free .entry)) (now (share .entry))) (rows (now (amount .exit)) (now (fed .exit)) (now (free .exit)) (now (share .exit))) ⌝ }
-    ensures { λ r. ⌜ Stepped n (now (pred .entry)) (trodden (now (queue .entry)) (now (origin .entry)) (now (via .entry))) (rows (now (amount .entry)) (now (fed .entry)) (now (free .entry)) (now (share .entry))) (rows (now (amount .exit)) (now (fed .exit)) (now (free .exit)) (now (share .exit))) u r ⌝ }
+    ensures { λ r. ⌜ Stepped n (now (pred .entry)) (trailRows (now (queue .entry)) (now (origin .entry)) (now (via .entry))) (rows (now (amount .entry)) (now (fed .entry)) (now (free .entry)) (now (share .entry))) (rows (now (amount .exit)) (now (fed .exit)) (now (free .exit)) (now (share .exit))) u r ⌝ }
 {
     let v = origin[at];
     if v >= n {
@@ -103,7 +103,7 @@ fn walk_step(
     requires { ⌜ (256 ≤ length (now queue)) × (256 ≤ length (now origin)) × (256 ≤ length (now via)) ⌝ }
     requires { ⌜ u < n ⌝ }
     ensures { λ r. ⌜ Moved n (now (pred .entry)) (rows (now (amount .entry)) (now (fed .entry)) (now (free .entry)) (now (share .entry))) (rows (now (amount .exit)) (now (fed .exit)) (now (free .exit)) (now (share .exit))) ⌝ }
-    ensures { λ r. ⌜ Stepped n (now (pred .entry)) (trodden (now (queue .entry)) (now (origin .entry)) (now (via .entry))) (rows (now (amount .entry)) (now (fed .entry)) (now (free .entry)) (now (share .entry))) (rows (now (amount .exit)) (now (fed .exit)) (now (free .exit)) (now (share .exit))) u r ⌝ }
+    ensures { λ r. ⌜ Stepped n (now (pred .entry)) (trailRows (now (queue .entry)) (now (origin .entry)) (now (via .entry))) (rows (now (amount .entry)) (now (fed .entry)) (now (free .entry)) (now (share .entry))) (rows (now (amount .exit)) (now (fed .exit)) (now (free .exit)) (now (share .exit))) u r ⌝ }
 {
     if free[u] == 0 {
         return Step::Stuck;
@@ -157,7 +157,7 @@ pub fn walk(
     requires { ⌜ (256 ≤ length (now queue)) × (256 ≤ length (now origin)) × (256 ≤ length (now via)) ⌝ }
     requires { ⌜ u < n ⌝ }
     ensures { λ r. ⌜ Moved n (now (pred .entry)) (rows (now (amount .entry)) (now (fed .entry)) (now (free .entry)) (now (share .entry))) (rows (now (amount .exit)) (now (fed .exit)) (now (free .exit)) (now (share .exit))) ⌝ }
-    ensures { λ r. ⌜ Walked n (now (pred .entry)) (trodden (now (queue .entry)) (now (origin .entry)) (now (via .entry))) (rows (now (amount .entry)) (now (fed .entry)) (now (free .entry)) (now (share .entry))) (rows (now (amount .exit)) (now (fed .exit)) (now (free .exit)) (now (share .exit))) u r ⌝ }
+    ensures { λ r. ⌜ Walked n (now (pred .entry)) (trailRows (now (queue .entry)) (now (origin .entry)) (now (via .entry))) (rows (now (amount .entry)) (now (fed .entry)) (now (free .entry)) (now (share .entry))) (rows (now (amount .exit)) (now (fed .exit)) (now (free .exit)) (now (share .exit))) u r ⌝ }
 {
     let mut giver = u;
     loop {

@@ -15,7 +15,7 @@ use Rattle.search.specs.Row.{In}
 use Rattle.search.specs.Closed.{Narrow}
 use Rattle.search.specs.Searched.{Searched}
 use Rattle.search.specs.Trail.{_!_, Takers, Givers, takersOf, giversOf}
-use Rattle.exchange.specs.Walk.{Route, Ready, Trodden, IsReady, Walked}
+use Rattle.exchange.specs.Walk.{Route, Ready, TrailRows, IsReady, Walked}
 use Rattle.settle.specs.Finished.{Finished, HasFree, Advanced, Rounded}
 
 -- takers and givers are events
@@ -27,7 +27,7 @@ narrow n pred r f o =
     }
 
 -- a giver that a search met and that has tokens free is ready
-pub ready : (n : ℕ) (pred : List ℕ) (r : Rows) (m : Trodden) (row : List ℕ) (tail : ℕ) (givers : List ℕ) (u : ℕ) → n ≤ 256
+pub ready : (n : ℕ) (pred : List ℕ) (r : Rows) (m : TrailRows) (row : List ℕ) (tail : ℕ) (givers : List ℕ) (u : ℕ) → n ≤ 256
     → Searched pred (r .fed) (r .share) n (takersOf row (m .queue) (m .origin) tail) (giversOf givers (m .via))
     → HasFree givers (r .free) n u → IsReady n pred m r u row tail givers
 ready n pred r m row tail givers u few s h = (
@@ -54,7 +54,7 @@ finish n pred r t g s none =
     }
 
 -- a walk from a giver with tokens free, and more moves
-pub advanced : (n : ℕ) (pred : List ℕ) (givers : List ℕ) (m : Trodden) (r s r′ : Rows) (u : ℕ) (b : Bool) → n ≤ 256 → HasFree givers (r .free) n u
+pub advanced : (n : ℕ) (pred : List ℕ) (givers : List ℕ) (m : TrailRows) (r s r′ : Rows) (u : ℕ) (b : Bool) → n ≤ 256 → HasFree givers (r .free) n u
     → Walked n pred m r s u b → Moved n pred s r′ → Advanced n pred givers m r r′ true
 advanced n pred givers m r s r′ u true few h w k row tail x = omega (arith, k .lacks)
 advanced n pred givers m r s r′ u false few h w k row tail x = absurd (w row tail givers (ready n pred r m row tail givers u few x h))

@@ -12,7 +12,7 @@ use Rattle.search.specs.Row.{In, members}
 use Rattle.search.specs.Closed.{Closed}
 use Rattle.search.specs.Searched.{Searched}
 use Rattle.search.specs.Trail.{takersOf, giversOf}
-use Rattle.exchange.specs.Walk.{Trodden}
+use Rattle.exchange.specs.Walk.{TrailRows}
 
 pub record Finished (n : ℕ) (pred : List ℕ) (r : Rows) (takers givers : List ℕ) : Type 0 where
   pub takers-named : (w : ℕ) → In takers w → w < n
@@ -33,7 +33,7 @@ FreeSaid givers free u true = In givers u × (0 < getD free u 0)
 FreeSaid givers free u false = In givers u → 0 < getD free u 0 → ⊥
 
 -- What walking after a search says: less is lacking than before, or nothing changed and no giver that was met has tokens free.
-abbrev pub Advanced : ℕ → List ℕ → List ℕ → Trodden → Rows → Rows → Bool → Type 0
+abbrev pub Advanced : ℕ → List ℕ → List ℕ → TrailRows → Rows → Rows → Bool → Type 0
 Advanced n pred givers m r r′ true =
     (row : List ℕ) (tail : ℕ) → Searched pred (r .fed) (r .share) n (takersOf row (m .queue) (m .origin) tail) (giversOf givers (m .via))
     → lacking n r′ < lacking n r

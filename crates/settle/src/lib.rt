@@ -7,7 +7,7 @@ ghost use Rattle.tokenflow.specs.Rows.{rows};
 ghost use Rattle.tokenflow.specs.Flowing.{Flowing};
 ghost use Rattle.drawing.specs.Moves.{Moved, Order};
 ghost use Rattle.search.specs.Searched.{Room};
-ghost use Rattle.exchange.specs.Walk.{trodden};
+ghost use Rattle.exchange.specs.Walk.{trailRows};
 ghost use Rattle.settle.specs.Finished.{Advanced, Finished, FreeSaid, HasFree, Rounded};
 use exchange::walk;
 use marks::Found;
@@ -122,7 +122,7 @@ fn advance(
     requires { ⌜ HasRow (now givers) 0 ⌝ }
     requires { ⌜ (256 ≤ length (now queue)) × (256 ≤ length (now origin)) × (256 ≤ length (now via)) ⌝ }
     ensures { λ r. ⌜ Moved n (now (pred .entry)) (rows (now (amount .entry)) (now (fed .entry)) (now (free .entry)) (now (share .entry))) (rows (now (amount .exit)) (now (fed .exit)) (now (free .exit)) (now (share .exit))) ⌝ }
-    ensures { λ r. ⌜ Advanced n (now (pred .entry)) (now (givers .entry)) (trodden (now (queue .entry)) (now (origin .entry)) (now (via .entry))) (rows (now (amount .entry)) (now (fed .entry)) (now (free .entry)) (now (share .entry))) (rows (now (amount .exit)) (now (fed .exit)) (now (free .exit)) (now (share .exit))) r ⌝ }
+    ensures { λ r. ⌜ Advanced n (now (pred .entry)) (now (givers .entry)) (trailRows (now (queue .entry)) (now (origin .entry)) (now (via .entry))) (rows (now (amount .entry)) (now (fed .entry)) (now (free .entry)) (now (share .entry))) (rows (now (amount .exit)) (now (fed .exit)) (now (free .exit)) (now (share .exit))) r ⌝ }
 {
     let found = find_free(givers, free, n);
     let Found::At(u) = found else {

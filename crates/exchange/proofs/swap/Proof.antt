@@ -5,7 +5,7 @@ use borrow.Author.Tests.{not-true, not-false}
 use lib.Dec.{T}
 use Rattle.tokenflow.specs.Rows.{rows}
 use Rattle.drawing.specs.Moves.{moved-none}
-use Rattle.exchange.specs.Walk.{trodden}
+use Rattle.exchange.specs.Walk.{trailRows}
 use Rattle.exchange.proofs.Steps.{named-origin, earlier-origin, feeding-origin, goes-on}
 use borrow.Author.Needs.{needs}
 use Rattle.exchange.proofs.swap.Statement.{statement}
@@ -22,7 +22,7 @@ returns c =
     let s = c .before .before .before .before .before .before .before .before .before .before in
     let a = s .args in
     let f = s .pre .1 .1 .1 .0 in
-    (moved-none (a .n) (a .pred .now) (rows (a .amount .now) (a .fed .now) (a .free .now) (a .share .now)) (s .pre .0), named-origin (a .n) (a .pred .now) (trodden (a .queue .now) (a .origin .now) (a .via .now)) (rows (a .amount .now) (a .fed .now) (a .free .now) (a .share .now)) (a .u) (a .at) (a .w) (f .3) (f .4) (s .pre .1 .1 .1 .1 .2) (c .if1 .taken))
+    (moved-none (a .n) (a .pred .now) (rows (a .amount .now) (a .fed .now) (a .free .now) (a .share .now)) (s .pre .0), named-origin (a .n) (a .pred .now) (trailRows (a .queue .now) (a .origin .now) (a .via .now)) (rows (a .amount .now) (a .fed .now) (a .free .now) (a .share .now)) (a .u) (a .at) (a .w) (f .3) (f .4) (s .pre .1 .1 .1 .1 .2) (c .if1 .taken))
 
 mul-if2 : tie.Need-mul-if2
 mul-if2 c = search needs
@@ -35,7 +35,7 @@ returns-2 c =
     let s = c .before .before .before .before .before .before .before .before .before .before .before .before in
     let a = s .args in
     let f = s .pre .1 .1 .1 .0 in
-    (moved-none (a .n) (a .pred .now) (rows (a .amount .now) (a .fed .now) (a .free .now) (a .share .now)) (s .pre .0), earlier-origin (a .n) (a .pred .now) (trodden (a .queue .now) (a .origin .now) (a .via .now)) (rows (a .amount .now) (a .fed .now) (a .free .now) (a .share .now)) (a .u) (a .at) (a .w) (f .3) (f .4) (s .pre .1 .1 .1 .1 .2) (c .if2 .taken))
+    (moved-none (a .n) (a .pred .now) (rows (a .amount .now) (a .fed .now) (a .free .now) (a .share .now)) (s .pre .0), earlier-origin (a .n) (a .pred .now) (trailRows (a .queue .now) (a .origin .now) (a .via .now)) (rows (a .amount .now) (a .fed .now) (a .free .now) (a .share .now)) (a .u) (a .at) (a .w) (f .3) (f .4) (s .pre .1 .1 .1 .1 .2) (c .if2 .taken))
 
 is-marked-requires : tie.Need-is-marked-requires
 is-marked-requires c κs = search needs
@@ -48,7 +48,7 @@ returns-3 c =
     let s = c .before .before .before .before .before .before .before .before .before .before .before .before .before .before .before in
     let a = s .args in
     let f = s .pre .1 .1 .1 .0 in
-    (moved-none (a .n) (a .pred .now) (rows (a .amount .now) (a .fed .now) (a .free .now) (a .share .now)) (s .pre .0), feeding-origin (a .n) (a .pred .now) (trodden (a .queue .now) (a .origin .now) (a .via .now)) (rows (a .amount .now) (a .fed .now) (a .free .now) (a .share .now)) (a .u) (a .at) (a .w) (f .3) (f .4) (s .pre .1 .1 .1 .1 .2) (sym (c .before .is-marked .ensures) ∙ not-true _ (c .if3 .taken)))
+    (moved-none (a .n) (a .pred .now) (rows (a .amount .now) (a .fed .now) (a .free .now) (a .share .now)) (s .pre .0), feeding-origin (a .n) (a .pred .now) (trailRows (a .queue .now) (a .origin .now) (a .via .now)) (rows (a .amount .now) (a .fed .now) (a .free .now) (a .share .now)) (a .u) (a .at) (a .w) (f .3) (f .4) (s .pre .1 .1 .1 .1 .2) (sym (c .before .is-marked .ensures) ∙ not-true _ (c .if3 .taken)))
 
 exchange-requires : tie.Need-exchange-requires
 exchange-requires c κs =
@@ -76,7 +76,7 @@ returns-4 c =
     let f = s .pre .1 .1 .1 .0 in
     let x = c .before .before .before .before .before .before .before .before .exchange in (
       x .ensures .moved,
-      (omega (arith, c .before .before .before .before .before .before .before .before .before .before .before .before .before .before .before .before .before .before .if1 .left), omega (arith, c .before .before .before .before .before .before .before .before .before .before .before .before .before .before .before .before .if2 .left, f .3), goes-on (a .n) (a .pred .now) (trodden (a .queue .now) (a .origin .now) (a .via .now)) (rows (a .amount .now) (a .fed .now) (a .free .now) (a .share .now)) (a .u) (a .at) (a .w) (f .3) (f .4) (s .pre .1 .1 .1 .1 .2) (rows (x .last .1 .0) (x .last .1 .1 .0) (x .last .1 .1 .1 .0) (x .last .1 .1 .1 .1 .0)) (x .result) (s .pre .0) (x .ensures)),
+      (omega (arith, c .before .before .before .before .before .before .before .before .before .before .before .before .before .before .before .before .before .before .if1 .left), omega (arith, c .before .before .before .before .before .before .before .before .before .before .before .before .before .before .before .before .if2 .left, f .3), goes-on (a .n) (a .pred .now) (trailRows (a .queue .now) (a .origin .now) (a .via .now)) (rows (a .amount .now) (a .fed .now) (a .free .now) (a .share .now)) (a .u) (a .at) (a .w) (f .3) (f .4) (s .pre .1 .1 .1 .1 .2) (rows (x .last .1 .0) (x .last .1 .1 .0) (x .last .1 .1 .1 .0) (x .last .1 .1 .1 .1 .0)) (x .result) (s .pre .0) (x .ensures)),
     )
 
 pub swap-spec : {M : Type 1} → statement M

@@ -7,7 +7,7 @@ use borrow.Author.Needs.{needs}
 use Rattle.tokenflow.specs.Rows.{rows}
 use Rattle.drawing.specs.Moves.{Moved, moved-none, moved-then}
 use Rattle.search.specs.Trail.{_!_}
-use Rattle.exchange.specs.Walk.{trodden, Stepped, IsReady}
+use Rattle.exchange.specs.Walk.{trailRows, Stepped, IsReady}
 use Rattle.exchange.specs.declared.Step.{Step}
 use Rattle.exchange.specs.declared.Step.the-variants.{Drew, Stuck, On}
 use Rattle.exchange.proofs.walk.Statement.{statement}
@@ -15,7 +15,7 @@ use Rattle.exchange.proofs.walk.Tie as tie
 
 abbrev Inv-loop : tie.InvT-loop
 Inv-loop pred queue origin via amount₀ fed₀ free₀ share₀ u n giver₀ amount fed free share giver =
-    (giver < n) × Moved n pred (rows amount₀ fed₀ free₀ share₀) (rows amount fed free share) × ((row : List ℕ) (tail : ℕ) (met : List ℕ) → IsReady n pred (trodden queue origin via) (rows amount₀ fed₀ free₀ share₀) u row tail met → IsReady n pred (trodden queue origin via) (rows amount fed free share) giver row tail met)
+    (giver < n) × Moved n pred (rows amount₀ fed₀ free₀ share₀) (rows amount fed free share) × ((row : List ℕ) (tail : ℕ) (met : List ℕ) → IsReady n pred (trailRows queue origin via) (rows amount₀ fed₀ free₀ share₀) u row tail met → IsReady n pred (trailRows queue origin via) (rows amount fed free share) giver row tail met)
 
 abbrev μ-loop : tie.MeasureT-loop
 μ-loop pred queue origin via amount₀ fed₀ free₀ share₀ u n giver₀ amount fed free share giver = via ! giver
@@ -40,12 +40,12 @@ after c =
     moved-then (a .n) (a .pred .now) (rows (a .amount .now) (a .fed .now) (a .free .now) (a .share .now)) (rows (l .amount) (l .fed) (l .free) (l .share)) _ (l .inv .1) (c .walk-step .ensures .0)
 
 -- what the step said
-said : (c : tie.After-walk-step Inv-loop μ-loop) (came : Step) → c .walk-step .result ≡ came → let a = c .before .before .before .before .before .before .before .before .before .before .before .before .before .before .args in let l = c .before .before .before .before .before .loop in let d = c .walk-step in Stepped (a .n) (a .pred .now) (trodden (a .queue .now) (a .origin .now) (a .via .now)) (rows (l .amount) (l .fed) (l .free) (l .share)) (rows (d .last .1 .1 .1 .1 .0) (d .last .1 .1 .1 .1 .1 .0) (d .last .1 .1 .1 .1 .1 .1 .0) (d .last .1 .1 .1 .1 .1 .1 .1 .0)) (l .giver) came
+said : (c : tie.After-walk-step Inv-loop μ-loop) (came : Step) → c .walk-step .result ≡ came → let a = c .before .before .before .before .before .before .before .before .before .before .before .before .before .before .args in let l = c .before .before .before .before .before .loop in let d = c .walk-step in Stepped (a .n) (a .pred .now) (trailRows (a .queue .now) (a .origin .now) (a .via .now)) (rows (l .amount) (l .fed) (l .free) (l .share)) (rows (d .last .1 .1 .1 .1 .0) (d .last .1 .1 .1 .1 .1 .0) (d .last .1 .1 .1 .1 .1 .1 .0) (d .last .1 .1 .1 .1 .1 .1 .1 .0)) (l .giver) came
 said c came e =
     let a = c .before .before .before .before .before .before .before .before .before .before .before .before .before .before .args in
     let l = c .before .before .before .before .before .loop in
     let d = c .walk-step in
-    subst (Stepped (a .n) (a .pred .now) (trodden (a .queue .now) (a .origin .now) (a .via .now)) (rows (l .amount) (l .fed) (l .free) (l .share)) (rows (d .last .1 .1 .1 .1 .0) (d .last .1 .1 .1 .1 .1 .0) (d .last .1 .1 .1 .1 .1 .1 .0) (d .last .1 .1 .1 .1 .1 .1 .1 .0)) (l .giver)) e (d .ensures .1)
+    subst (Stepped (a .n) (a .pred .now) (trailRows (a .queue .now) (a .origin .now) (a .via .now)) (rows (l .amount) (l .fed) (l .free) (l .share)) (rows (d .last .1 .1 .1 .1 .0) (d .last .1 .1 .1 .1 .1 .0) (d .last .1 .1 .1 .1 .1 .1 .0) (d .last .1 .1 .1 .1 .1 .1 .1 .0)) (l .giver)) e (d .ensures .1)
 
 enum-told : tie.Need-enum-told Inv-loop μ-loop
 enum-told c = search needs

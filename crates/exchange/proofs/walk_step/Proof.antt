@@ -6,7 +6,7 @@ use borrow.Author.Tests.{not-true, not-false}
 use lib.Dec.{T}
 use Rattle.tokenflow.specs.Rows.{rows}
 use Rattle.drawing.specs.Moves.{moved-none}
-use Rattle.exchange.specs.Walk.{trodden}
+use Rattle.exchange.specs.Walk.{trailRows}
 use Rattle.exchange.proofs.Steps.{has-free, near, names, ahead}
 use borrow.Author.Needs.{needs}
 use Rattle.exchange.proofs.walk_step.Statement.{statement}
@@ -23,7 +23,7 @@ returns c =
     let s = c .before .before .before .before .before .before .before .before .before .before in
     let a = s .args in (
       moved-none (a .n) (a .pred .now) (rows (a .amount .now) (a .fed .now) (a .free .now) (a .share .now)) (s .pre .0),
-      λ row tail met h. has-free (a .n) (a .pred .now) (trodden (a .queue .now) (a .origin .now) (a .via .now)) (rows (a .amount .now) (a .fed .now) (a .free .now) (a .share .now)) (a .u) row tail met h (c .if1 .taken),
+      λ row tail met h. has-free (a .n) (a .pred .now) (trailRows (a .queue .now) (a .origin .now) (a .via .now)) (rows (a .amount .now) (a .fed .now) (a .free .now) (a .share .now)) (a .u) row tail met h (c .if1 .taken),
     )
 
 mul-at : tie.Need-mul-at
@@ -37,7 +37,7 @@ returns-2 c =
     let s = c .before .before .before .before .before .before .before .before .before .before .before .before in
     let a = s .args in (
       moved-none (a .n) (a .pred .now) (rows (a .amount .now) (a .fed .now) (a .free .now) (a .share .now)) (s .pre .0),
-      λ row tail met h. omega (arith, near (a .n) (a .pred .now) (trodden (a .queue .now) (a .origin .now) (a .via .now)) (rows (a .amount .now) (a .fed .now) (a .free .now) (a .share .now)) (a .u) row tail met h, c .if2 .taken),
+      λ row tail met h. omega (arith, near (a .n) (a .pred .now) (trailRows (a .queue .now) (a .origin .now) (a .via .now)) (rows (a .amount .now) (a .fed .now) (a .free .now) (a .share .now)) (a .u) row tail met h, c .if2 .taken),
     )
 
 mul-w : tie.Need-mul-w
@@ -51,7 +51,7 @@ returns-3 c =
     let s = c .before .before .before .before .before .before .before .before .before .before .before .before .before .before in
     let a = s .args in (
       moved-none (a .n) (a .pred .now) (rows (a .amount .now) (a .fed .now) (a .free .now) (a .share .now)) (s .pre .0),
-      λ row tail met h. omega (arith, names (a .n) (a .pred .now) (trodden (a .queue .now) (a .origin .now) (a .via .now)) (rows (a .amount .now) (a .fed .now) (a .free .now) (a .share .now)) (a .u) row tail met h, c .if3 .taken),
+      λ row tail met h. omega (arith, names (a .n) (a .pred .now) (trailRows (a .queue .now) (a .origin .now) (a .via .now)) (rows (a .amount .now) (a .fed .now) (a .free .now) (a .share .now)) (a .u) row tail met h, c .if3 .taken),
     )
 
 is-marked-requires : tie.Need-is-marked-requires
@@ -62,7 +62,7 @@ returns-4 c =
     let s = c .before .before .before .before .before .before .before .before .before .before .before .before .before .before .before .before in
     let a = s .args in (
       moved-none (a .n) (a .pred .now) (rows (a .amount .now) (a .fed .now) (a .free .now) (a .share .now)) (s .pre .0),
-      λ row tail met h. subst T (sym (c .before .is-marked .ensures) ∙ not-true _ (c .if4 .taken)) (ahead (a .n) (a .pred .now) (trodden (a .queue .now) (a .origin .now) (a .via .now)) (rows (a .amount .now) (a .fed .now) (a .free .now) (a .share .now)) (a .u) row tail met h),
+      λ row tail met h. subst T (sym (c .before .is-marked .ensures) ∙ not-true _ (c .if4 .taken)) (ahead (a .n) (a .pred .now) (trailRows (a .queue .now) (a .origin .now) (a .via .now)) (rows (a .amount .now) (a .fed .now) (a .free .now) (a .share .now)) (a .u) row tail met h),
     )
 
 mul-if5 : tie.Need-mul-if5

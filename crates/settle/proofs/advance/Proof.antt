@@ -4,7 +4,7 @@ use borrow.Author.Needs.{needs}
 use Rattle.marks.specs.Search.{Tells}
 use Rattle.tokenflow.specs.Rows.{rows}
 use Rattle.drawing.specs.Moves.{moved-none, moved-then}
-use Rattle.exchange.specs.Walk.{trodden}
+use Rattle.exchange.specs.Walk.{trailRows}
 use Rattle.settle.specs.Finished.{HasFree}
 use Rattle.settle.proofs.Rounds.{advanced}
 use Rattle.settle.proofs.advance.Statement.{statement}
@@ -59,7 +59,7 @@ returns-2 c =
     let w = c .before .before .before .before .before .before .before .before .before .before .before .before .before .before .before .before .before .before .before .before .before .walk in
     let k = c .before .before .before .before .before .before .before .before .walk-rest in (
       moved-then (a .n) (a .pred .now) (rows (a .amount .now) (a .fed .now) (a .free .now) (a .share .now)) (rows (w .last .1 .1 .1 .1 .0) (w .last .1 .1 .1 .1 .1 .0) (w .last .1 .1 .1 .1 .1 .1 .0) (w .last .1 .1 .1 .1 .1 .1 .1 .0)) _ (w .ensures .0) (k .ensures),
-      advanced (a .n) (a .pred .now) (a .givers .now) (trodden (a .queue .now) (a .origin .now) (a .via .now)) (rows (a .amount .now) (a .fed .now) (a .free .now) (a .share .now)) (rows (w .last .1 .1 .1 .1 .0) (w .last .1 .1 .1 .1 .1 .0) (w .last .1 .1 .1 .1 .1 .1 .0) (w .last .1 .1 .1 .1 .1 .1 .1 .0)) _ (c .before .before .before .before .before .before .before .before .before .before .before .before .before .before .before .before .before .before .before .before .before .before .before .before .before .before .before .found .given .0 .0) (w .result) (s .pre .0 .events) (there (c .before .before .before .before .before .before .before .before .before .before .before .before .before .before .before .before .before .before .before .before .before .before .before .before .before .before .before)) (w .ensures .1) (k .ensures),
+      advanced (a .n) (a .pred .now) (a .givers .now) (trailRows (a .queue .now) (a .origin .now) (a .via .now)) (rows (a .amount .now) (a .fed .now) (a .free .now) (a .share .now)) (rows (w .last .1 .1 .1 .1 .0) (w .last .1 .1 .1 .1 .1 .0) (w .last .1 .1 .1 .1 .1 .1 .0) (w .last .1 .1 .1 .1 .1 .1 .1 .0)) _ (c .before .before .before .before .before .before .before .before .before .before .before .before .before .before .before .before .before .before .before .before .before .before .before .before .before .before .before .found .given .0 .0) (w .result) (s .pre .0 .events) (there (c .before .before .before .before .before .before .before .before .before .before .before .before .before .before .before .before .before .before .before .before .before .before .before .before .before .before .before)) (w .ensures .1) (k .ensures),
     )
 
 pub advance-spec : {M : Type 1} → statement M
