@@ -3,7 +3,8 @@ use Prim.Native.Nat.{ℕ, zero, suc, _+_, _<_}
 use native.Mathlib.Nat.{le-step, lt-suc-self, not-suc-le-zero}
 use native.Mathlib.Omega.{arith}
 use mathlib.Core.Bool.{Bool, true, false}
-use mathlib.Core.Path.{_≡_, refl, ap, ap₂, _∙_}
+use mathlib.Core.Logic.{_↔_}
+use mathlib.Core.Path.{_≡_, refl, ap, ap₂, subst}
 use borrow.Author.Tests.{ltb-true, ltb-false}
 use lib.Dec.{ltb}
 use Rattle.finite.specs.Bounded.{below-suc}
@@ -28,6 +29,17 @@ module _ (missing : ℕ → ℕ) where
   unfolding verdictOf
   verdict-says zero = λ p l. absurd (not-suc-le-zero l)
   verdict-says (suc n) = decided n (verdictOf missing n) (ltb 0 (missing n)) refl (verdict-says n)
+
+  runs-when : (n : ℕ) (v : Verdict) → Says missing n v → ((p : ℕ) → p < n → missing p ≡ 0) → v ≡ Runs
+  runs-when n Runs h none = refl
+  runs-when n (Short q m) h none = let some : ⊥ = omega (arith, h .1, h .2, none (q .0) (h .0)) in absurd some
+
+  -- The verdict is Runs exactly if nothing is missing at any place.
+  pub verdict-runs : (n : ℕ) → (verdictOf missing n ≡ Runs) ↔ ((p : ℕ) → p < n → missing p ≡ 0)
+  verdict-runs n = (
+    λ e. subst (Says missing n) e (verdict-says n),
+    runs-when n (verdictOf missing n) (verdict-says n),
+  )
 
   number-fits : (n : ℕ) (v : Verdict) → Says missing n v → verdictNumber v < 1000 + n
   number-fits n Runs h = omega arith
