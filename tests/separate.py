@@ -63,19 +63,6 @@ def fault(sheet):
     return 0
 
 
-def fault_of_call(sheet, place, lengths, needed):
-    """The fault of a call with a place number and lent rows: `needed` tells a plan how long each row has to be."""
-    number = fault(sheet)
-    if number:
-        return number
-    plan = read(sheet)
-    if place is not None and place >= plan.places:
-        return 12
-    if any(length < least for length, least in zip(lengths, needed(plan))):
-        return 13
-    return 0
-
-
 def read(sheet):
     """The plan of a faultless sheet."""
     places, transitions, events, pairs = struct.unpack_from("<8I", sheet)[1::2]
