@@ -12,7 +12,7 @@ ghost use Rattle.sheet.specs.Faultless.{Faultless};
 ghost use Rattle.closure.specs.PlanRows.{Predecessors};
 ghost use Rattle.judge.specs.Counts.{missingAt};
 use lookup::Place;
-use place::judge_place;
+use place::settle_place;
 
 // The missing count of the place p, as the row's number p.
 fn count_place(
@@ -43,7 +43,7 @@ fn count_place(
     requires { ⌜ (p < places) × (p < length (now row)) ⌝ }
     ensures { λ _. ⌜ now (row .exit) ≡ set (now (row .entry)) p (missingAt (now (s .entry)) p) ⌝ }
 {
-    row[p] = judge_place(
+    row[p] = settle_place(
         s,
         places,
         transitions,

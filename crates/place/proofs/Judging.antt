@@ -42,7 +42,7 @@ module _ (s : List ℕ) (known : Faultless s) (p : ℕ) (place : p < placesOf s)
         }
 
     pub judged : Predecessors (planOf s) pred → (takers givers : List ℕ) → Finished n pred r takers givers → (lacks opens m : ℕ) → lacks ≡ sumOf (r .share) n → opens ≡ openingAt s p → m ≡ lacks - opens
-        → Judged (netOf s) (planOf s) p r givers m
+        → Judged (netOf s) (planOf s) p pred r givers m
     unfolding lacking sumOf
     judged before takers givers done lacks opens m sums opening above =
         let f = subst (λ (k : ℕ). Flowing k pred r) all (moved .flows) in
@@ -53,6 +53,7 @@ module _ (s : List ℕ) (known : Faultless s) (p : ℕ) (place : p < placesOf s)
         record {
           count = e ∙ sym c;
           lacks = e;
+          flows = f;
           flow = rows-flow (netOf s) (planOf s) p (sound s known) pred before r₀ r start f k;
           set = place-smallest (netOf s) (planOf s) p (sound s known) pred before r₀ r start f k takers givers d;
         }

@@ -81,8 +81,9 @@ module _ (N : Net) (P : Plan) (p : ℕ) (S : Sound P) (pred : List ℕ) (before 
         settled-smallest N P p S y (λ u. getD (r .free) u 0) (λ w. getD (r .share) w 0) rows-flow (members takers) (members givers) rows-settled short
 
 -- What is known when a place is settled: the count, a tokenflow of that lack, and the smallest done set if something is missing.
-pub record Judged (N : Net) (P : Plan) (p : ℕ) (r : Rows) (givers : List ℕ) (m : ℕ) : Type 0 where
+pub record Judged (N : Net) (P : Plan) (p : ℕ) (pred : List ℕ) (r : Rows) (givers : List ℕ) (m : ℕ) : Type 0 where
   pub count : m ≡ missing N P p
   pub lacks : m ≡ lacking (P .events) r - N .opening p
+  pub flows : Flowing (P .events) pred r
   pub flow : Tokenflow N P p (λ u w. fedBy (r .amount) (r .fed) u w) (λ u. getD (r .free) u 0) (λ w. getD (r .share) w 0)
   pub set : 0 < missing N P p → smallest N P p ≡ members givers

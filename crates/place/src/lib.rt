@@ -71,8 +71,8 @@ fn fill(
     }
 }
 
-// Every word is x.
-fn put_words(rows: &mut [u32], count: usize, x: u32)
+// The first `count` numbers become x.
+pub fn put_words(rows: &mut [u32], count: usize, x: u32)
     requires { ⌜ count ≤ length (now rows) ⌝ }
     ensures { λ _. ⌜ Filled (λ i. x) count (now (rows .entry)) (now (rows .exit)) ⌝ }
 {
@@ -167,7 +167,7 @@ fn above(lacks: u32, opening: u32) -> u32
 }
 
 // The missing count of a place. The rows are settled then, and `givers` marks the smallest done set if something is missing.
-pub fn judge_place(
+pub fn settle_place(
     s: &[u8],
     places: usize,
     transitions: usize,
@@ -192,7 +192,7 @@ pub fn judge_place(
     requires { ⌜ (256 ≤ length (now order)) × (length (now pred) ≡ 2048) × Predecessors (planOf (now s)) (now pred) ⌝ }
     requires { ⌜ Sized (rows (now amount) (now fed) (now free) (now share)) ⌝ }
     requires { ⌜ HasRow (now spare) 0 × Room (now takers) (now givers) (now queue) (now origin) (now via) ⌝ }
-    ensures { λ r. ⌜ Judged (netOf (now (s .entry))) (planOf (now (s .entry))) (p .0) (rows (now (amount .exit)) (now (fed .exit)) (now (free .exit)) (now (share .exit))) (now (givers .exit)) r ⌝ }
+    ensures { λ r. ⌜ Judged (netOf (now (s .entry))) (planOf (now (s .entry))) (p .0) (now (pred .entry)) (rows (now (amount .exit)) (now (fed .exit)) (now (free .exit)) (now (share .exit))) (now (givers .exit)) r ⌝ }
 {
     prepare(
         s,

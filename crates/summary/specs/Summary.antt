@@ -1,5 +1,5 @@
 -- The answer of the plan judgement. Document 01, "Calls": the total missing, the number of short places, and a verdict.
-use Prim.Native.Nat.{ℕ, zero, suc, _≤_, _<_}
+use Prim.Native.Nat.{ℕ, zero, suc, _+_, _≤_, _<_}
 use mathlib.Core.Bool.{Bool, true, false}
 use mathlib.Core.List.{List}
 use mathlib.Core.Path.{_≡_}
@@ -10,12 +10,12 @@ use Rattle.lookup.specs.declared.Place.{Place}
 use Rattle.summary.specs.declared.Verdict.{Verdict}
 use Rattle.summary.specs.declared.Verdict.the-variants.{Runs, Short}
 
--- Of the first n places, whose missing counts stand in the row: what is missing in all, and how many places are short.
-unfoldable pub totalMissing : List ℕ → ℕ → ℕ
-totalMissing row n = sum n (λ p. getD row p 0)
+-- Of the first n places, with the missing count of each: what is missing in all, and how many places are short.
+unfoldable pub totalMissing : (ℕ → ℕ) → ℕ → ℕ
+totalMissing missing n = sum n missing
 
-unfoldable pub shortPlaces : List ℕ → ℕ → ℕ
-shortPlaces row n = sum n (λ p. on (ltb 0 (getD row p 0)) 1)
+unfoldable pub shortPlaces : (ℕ → ℕ) → ℕ → ℕ
+shortPlaces missing n = sum n (λ p. on (ltb 0 (missing p)) 1)
 
 -- A place that is short by m decides where no place before it did.
 abbrev pub decides : Verdict → Bool → ℕ → ℕ → Verdict
@@ -24,11 +24,25 @@ decides Runs true p m = Short (record { 0 = p }) m
 decides (Short q k) b p m = Short q k
 
 -- Runs, or short with the first short place and its missing count.
-unfoldable pub verdictOf : List ℕ → ℕ → Verdict
-verdictOf row zero = Runs
-verdictOf row (suc n) = decides (verdictOf row n) (ltb 0 (getD row n 0)) n (getD row n 0)
+unfoldable pub verdictOf : (ℕ → ℕ) → ℕ → Verdict
+verdictOf missing zero = Runs
+verdictOf missing (suc n) = decides (verdictOf missing n) (ltb 0 (missing n)) n (missing n)
+
+-- The number of each case, which the till server gets: 0 for a plan that runs, or 1,000 plus the number of the first short place,
+abbrev pub verdictNumber : Verdict → ℕ
+verdictNumber Runs = 0
+verdictNumber (Short p m) = 1000 + p .0
+
+-- and what is missing there.
+abbrev pub verdictCount : Verdict → ℕ
+verdictCount Runs = 0
+verdictCount (Short p m) = m
+
+-- the missing counts that stand in a row
+abbrev pub countAt : List ℕ → ℕ → ℕ
+countAt row p = getD row p 0
 
 -- A row of counts: 64 at most, each at most 256,000.
 pub record Counts (row : List ℕ) (n : ℕ) : Type 0 where
   pub few : n ≤ 64
-  pub most : (p : ℕ) → p < n → getD row p 0 ≤ 256000
+  pub most : (p : ℕ) → p < n → countAt row p ≤ 256000

@@ -2,7 +2,7 @@
 ghost use Prim.Native.Nat.{_≤_};
 ghost use mathlib.Core.Path.{_≡_};
 ghost use lib.ListN.{length};
-ghost use Rattle.summary.specs.Summary.{totalMissing, shortPlaces, verdictOf, Counts};
+ghost use Rattle.summary.specs.Summary.{totalMissing, shortPlaces, verdictOf, countAt, Counts};
 use lookup::Place;
 
 // A plan runs, or is short at a first place by a missing count.
@@ -13,7 +13,7 @@ pub enum Verdict {
 
 pub fn total_missing(row: &[u32], n: usize) -> u32
     requires { ⌜ Counts (now row) n × (n ≤ length (now row)) ⌝ }
-    ensures { λ r. ⌜ r ≡ totalMissing (now (row .entry)) n ⌝ }
+    ensures { λ r. ⌜ r ≡ totalMissing (countAt (now (row .entry))) n ⌝ }
 {
     let mut total: u32 = 0;
     for p in 0..n {
@@ -24,7 +24,7 @@ pub fn total_missing(row: &[u32], n: usize) -> u32
 
 pub fn short_places(row: &[u32], n: usize) -> u32
     requires { ⌜ Counts (now row) n × (n ≤ length (now row)) ⌝ }
-    ensures { λ r. ⌜ r ≡ shortPlaces (now (row .entry)) n ⌝ }
+    ensures { λ r. ⌜ r ≡ shortPlaces (countAt (now (row .entry))) n ⌝ }
 {
     let mut short: u32 = 0;
     for p in 0..n {
@@ -37,7 +37,7 @@ pub fn short_places(row: &[u32], n: usize) -> u32
 
 pub fn verdict_of(row: &[u32], n: usize) -> Verdict
     requires { ⌜ n ≤ length (now row) ⌝ }
-    ensures { λ r. ⌜ r ≡ verdictOf (now (row .entry)) n ⌝ }
+    ensures { λ r. ⌜ r ≡ verdictOf (countAt (now (row .entry))) n ⌝ }
 {
     for p in 0..n {
         if row[p] > 0 {

@@ -6,8 +6,8 @@ use lib.ListN.{set}
 use Rattle.judge.proofs.count_place.Statement.{statement}
 use Rattle.judge.proofs.count_place.Tie as tie
 
-judge-place-requires : tie.Need-judge-place-requires
-judge-place-requires c κs = let h = c .before .before .before .before .before .before .before .before .before .before .before .before .before .before .before .before .before .before .before .before .before .before .before .before .pre in (h .0, (h .1 .0, (h .1 .1 .1 .1 .1 .0, (h .1 .1 .0, (h .1 .1 .1 .0, h .1 .1 .1 .1 .0)))))
+settle-place-requires : tie.Need-settle-place-requires
+settle-place-requires c κs = let h = c .before .before .before .before .before .before .before .before .before .before .before .before .before .before .before .before .before .before .before .before .before .before .before .before .pre in (h .0, (h .1 .0, (h .1 .1 .1 .1 .1 .0, (h .1 .1 .0, (h .1 .1 .1 .0, h .1 .1 .1 .1 .0)))))
 
 mul-row : tie.Need-mul-row
 mul-row c = let h = c .before .before .before .before .before .before .before .before .before .before .before .before .before .before .before .before .before .before .before .before .before .before .before .before .before .before .before .before .before .before .before .before .before .before .before .before .before .before .before .before .before .before .before .before .before .pre in omega (arith, h .1 .1 .1 .1 .1 .0, h .1 .0 .0, h .0 .laid .limited .places)
@@ -49,13 +49,13 @@ same-length-11 : tie.Need-same-length-11
 same-length-11 c = search needs
 
 returns : tie.Need-returns
-returns c = let a = c .before .before .before .before .before .before .before .before .before .before .before .before .before .before .before .before .before .before .before .before .before .before .before .before .before .before .before .before .before .before .before .before .before .before .before .before .before .before .before .before .before .before .before .before .before .args in ap (set (a .row .now) (a .p)) (c .before .before .before .before .before .before .before .before .before .before .before .before .before .before .before .before .before .before .before .before .judge-place .ensures .count)
+returns c = let a = c .before .before .before .before .before .before .before .before .before .before .before .before .before .before .before .before .before .before .before .before .before .before .before .before .before .before .before .before .before .before .before .before .before .before .before .before .before .before .before .before .before .before .before .before .before .args in ap (set (a .row .now) (a .p)) (c .before .before .before .before .before .before .before .before .before .before .before .before .before .before .before .before .before .before .before .before .settle-place .ensures .count)
 
 pub count-place-spec : {M : Type 1} → statement M
 count-place-spec =
     tie.close
     (tie.spec
-    judge-place-requires
+    settle-place-requires
     mul-row
     slice-write-row
     same-length

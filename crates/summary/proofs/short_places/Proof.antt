@@ -4,13 +4,13 @@ use native.Mathlib.Omega.{arith}
 use mathlib.Core.Logic.{⊎-elim}
 use mathlib.Core.Path.{_≡_, sym, ap, _∙_}
 use borrow.Author.Needs.{needs}
-use Rattle.summary.specs.Summary.{shortPlaces}
+use Rattle.summary.specs.Summary.{shortPlaces, countAt}
 use Rattle.summary.proofs.Verdicts.{short-none, short-more, short-same}
 use Rattle.summary.proofs.short_places.Statement.{statement}
 use Rattle.summary.proofs.short_places.Tie as tie
 
 abbrev Inv-loop : tie.InvT-loop
-Inv-loop row n short₀ p₀ short p = (p ≤ n) × (short ≡ shortPlaces row p) × (short ≤ p)
+Inv-loop row n short₀ p₀ short p = (p ≤ n) × (short ≡ shortPlaces (countAt row) p) × (short ≤ p)
 
 abbrev μ-loop : tie.MeasureT-loop
 μ-loop row n short₀ p₀ short p = n - p
@@ -38,12 +38,12 @@ loop-again c =
     let a = c .before .before .before .before .args in
     let l = c .before .before .before .loop in
     ⊎-elim
-    (λ w. (omega arith, omega (arith, w .1, l .inv .1, short-more (a .row .now) (l .p) (w .0 .taken)), omega (arith, w .1)))
-    (λ w. (omega arith, omega (arith, w .1, l .inv .1, short-same (a .row .now) (l .p) (w .0 .left)), omega (arith, w .1)))
+    (λ w. (omega arith, omega (arith, w .1, l .inv .1, short-more (countAt (a .row .now)) (l .p) (w .0 .taken)), omega (arith, w .1)))
+    (λ w. (omega arith, omega (arith, w .1, l .inv .1, short-same (countAt (a .row .now)) (l .p) (w .0 .left)), omega (arith, w .1)))
     (c .if1 .came)
 
 returns : tie.Need-returns Inv-loop μ-loop
-returns c = let l = c .before .loop in l .inv .1 ∙ ap (shortPlaces (c .before .before .args .row .now)) (omega arith)
+returns c = let l = c .before .loop in l .inv .1 ∙ ap (shortPlaces (countAt (c .before .before .args .row .now))) (omega arith)
 
 pub short-places-spec : {M : Type 1} → statement M
 short-places-spec =

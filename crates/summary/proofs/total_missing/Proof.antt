@@ -3,13 +3,13 @@ use Prim.Native.Nat.{_-_, _*_, _≤_, zero-le}
 use native.Mathlib.Omega.{arith}
 use mathlib.Core.Path.{_≡_, sym, ap, _∙_}
 use borrow.Author.Needs.{needs}
-use Rattle.summary.specs.Summary.{totalMissing}
+use Rattle.summary.specs.Summary.{totalMissing, countAt}
 use Rattle.summary.proofs.Verdicts.{total-none, total-more}
 use Rattle.summary.proofs.total_missing.Statement.{statement}
 use Rattle.summary.proofs.total_missing.Tie as tie
 
 abbrev Inv-loop : tie.InvT-loop
-Inv-loop row n total₀ p₀ total p = (p ≤ n) × (total ≡ totalMissing row p) × (total ≤ 256000 * p)
+Inv-loop row n total₀ p₀ total p = (p ≤ n) × (total ≡ totalMissing (countAt row) p) × (total ≤ 256000 * p)
 
 abbrev μ-loop : tie.MeasureT-loop
 μ-loop row n total₀ p₀ total p = n - p
@@ -36,10 +36,10 @@ loop-again : tie.Need-loop-again Inv-loop μ-loop
 loop-again c =
     let s = c .before .before .before in
     let l = c .before .before .loop in
-    (omega arith, omega (arith, l .inv .1, total-more (s .args .row .now) (l .p)), omega (arith, s .pre .0 .most (l .p) (omega arith)))
+    (omega arith, omega (arith, l .inv .1, total-more (countAt (s .args .row .now)) (l .p)), omega (arith, s .pre .0 .most (l .p) (omega arith)))
 
 returns : tie.Need-returns Inv-loop μ-loop
-returns c = let l = c .before .loop in l .inv .1 ∙ ap (totalMissing (c .before .before .args .row .now)) (omega arith)
+returns c = let l = c .before .loop in l .inv .1 ∙ ap (totalMissing (countAt (c .before .before .args .row .now))) (omega arith)
 
 pub total-missing-spec : {M : Type 1} → statement M
 total-missing-spec =

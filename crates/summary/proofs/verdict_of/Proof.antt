@@ -4,13 +4,13 @@ use native.Mathlib.Omega.{arith}
 use mathlib.Core.Path.{_≡_, sym, ap, _∙_}
 use borrow.Author.Needs.{needs}
 use Rattle.summary.specs.declared.Verdict.the-variants.{Runs}
-use Rattle.summary.specs.Summary.{verdictOf}
+use Rattle.summary.specs.Summary.{verdictOf, countAt}
 use Rattle.summary.proofs.Verdicts.{runs-none, runs-more, short-found}
 use Rattle.summary.proofs.verdict_of.Statement.{statement}
 use Rattle.summary.proofs.verdict_of.Tie as tie
 
 abbrev Inv-loop : tie.InvT-loop
-Inv-loop row n p₀ p = (p ≤ n) × (verdictOf row p ≡ Runs)
+Inv-loop row n p₀ p = (p ≤ n) × (verdictOf (countAt row) p ≡ Runs)
 
 abbrev μ-loop : tie.MeasureT-loop
 μ-loop row n p₀ p = n - p
@@ -34,7 +34,7 @@ returns : tie.Need-returns Inv-loop μ-loop
 returns c =
     let a = c .before .before .before .before .before .args in
     let l = c .before .before .before .before .loop in
-    sym (short-found (a .row .now) (l .p) (a .n) (l .inv .1) (c .before .if1 .taken) (omega arith))
+    sym (short-found (countAt (a .row .now)) (l .p) (a .n) (l .inv .1) (c .before .if1 .taken) (omega arith))
 
 add-p : tie.Need-add-p Inv-loop μ-loop
 add-p c = search needs
@@ -46,10 +46,10 @@ loop-again : tie.Need-loop-again Inv-loop μ-loop
 loop-again c =
     let a = c .before .before .before .before .args in
     let l = c .before .before .before .loop in
-    (omega arith, runs-more (a .row .now) (l .p) (l .inv .1) (c .if1 .left))
+    (omega arith, runs-more (countAt (a .row .now)) (l .p) (l .inv .1) (c .if1 .left))
 
 returns-2 : tie.Need-returns-2 Inv-loop μ-loop
-returns-2 c = let l = c .before .loop in sym (ap (verdictOf (c .before .before .args .row .now)) (omega arith) ∙ l .inv .1)
+returns-2 c = let l = c .before .loop in sym (ap (verdictOf (countAt (c .before .before .args .row .now))) (omega arith) ∙ l .inv .1)
 
 pub verdict-of-spec : {M : Type 1} → statement M
 verdict-of-spec =

@@ -1,12 +1,12 @@
--- `place::judge_place` meets its contract.
+-- `place::settle_place` meets its contract.
 use Prim.Native.Nat.{ℕ, _<_}
 use native.Mathlib.Omega.{arith}
 use mathlib.Core.Path.{subst, _∙_}
 use borrow.Author.Needs.{needs}
 use Rattle.tokenflow.specs.Rows.{rows}
 use Rattle.place.proofs.Judging.{flowing, ordered, small, judged}
-use Rattle.place.proofs.judge_place.Statement.{statement}
-use Rattle.place.proofs.judge_place.Tie as tie
+use Rattle.place.proofs.settle_place.Statement.{statement}
+use Rattle.place.proofs.settle_place.Tie as tie
 
 prepare-requires : tie.Need-prepare-requires
 prepare-requires c κs =
@@ -83,8 +83,8 @@ returns c =
     let place = subst (λ (k : ℕ). s .args .p .0 < k) (s .pre .1 .0 .0) (s .pre .1 .1 .0) in
     judged (s .args .s .now) (s .pre .0) (s .args .p .0) place (s .args .pred .now) (s .args .n) (s .pre .1 .0 .2) (rows (s .args .amount .now) (d .last .1 .1 .1 .1 .1 .1 .0) (d .last .1 .1 .1 .1 .1 .1 .1 .0) (d .last .1 .1 .1 .1 .1 .1 .1 .1 .0)) (d .ensures) (rows (x .last .1 .1 .0) (x .last .1 .1 .1 .0) (x .last .1 .1 .1 .1 .0) (x .last .1 .1 .1 .1 .1 .0)) (x .ensures .0) (s .pre .1 .1 .1 .0 .2) (x .last .1 .1 .1 .1 .1 .1 .1 .0) (x .last .1 .1 .1 .1 .1 .1 .1 .1 .0) (x .ensures .1) (c .before .before .total .result) (c .before .opening .result) (c .above .result) (c .before .before .total .ensures) (c .before .opening .ensures) (c .above .ensures)
 
-pub judge-place-spec : {M : Type 1} → statement M
-judge-place-spec =
+pub settle-place-spec : {M : Type 1} → statement M
+settle-place-spec =
     tie.close
     (tie.spec
     prepare-requires

@@ -1,0 +1,44 @@
+// The plan judgement for C, over the bytes of a sheet alone.
+ghost use Prim.Native.Nat.{_<_};
+ghost use mathlib.Core.Path.{_≡_};
+ghost use Rattle.summary.specs.Summary.{verdictNumber};
+ghost use Rattle.plan_judgement.specs.Judgement.{answerOf};
+ghost use Rattle.reedanchor.specs.Till.{answerNumber, tillAnswer};
+use plan_judgement::Answer;
+use plan_judgement::judge_plan;
+use summary::Verdict;
+
+// 0 for a plan that runs, or 1,000 plus the number of the first short place.
+fn verdict_number(v: Verdict) -> u32
+    requires { ⌜ verdictNumber v < 1064 ⌝ }
+    ensures { λ r. ⌜ r ≡ verdictNumber v ⌝ }
+{
+    match v {
+        Verdict::Runs => 0,
+        Verdict::Short(p, _m) => 1000 + p.0 as u32,
+    }
+}
+
+// The number of a fault, else of the verdict.
+fn answer_number(a: Answer) -> u32
+    requires { ⌜ answerNumber a < 1064 ⌝ }
+    ensures { λ r. ⌜ r ≡ answerNumber a ⌝ }
+{
+    match a {
+        Answer::Fault(k) => k,
+        Answer::Judged(totals) => {
+            let v = totals.verdict;
+            verdict_number(v)
+        }
+    }
+}
+
+// The till server's call. The row of 64 numbers that it lends is never too short, so fault 13 doesn't arise.
+#[no_mangle]
+pub extern "C" fn reedanchor_judge(sheet: &[u8]) -> u32
+    ensures { λ r. ⌜ r ≡ tillAnswer (now (sheet .entry)) ⌝ }
+{
+    let mut row = [0u32; 64];
+    let a = judge_plan(sheet, &mut row);
+    answer_number(a)
+}
