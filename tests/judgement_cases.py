@@ -53,38 +53,52 @@ def examples():
         yield judged(plans.LISTED, place, [1, 0, 0], done)
 
 
-def refused(number, sheet, place, counts, flow, marks, checked):
-    """A case whose every call is refused with this number, but the plan judgement only where that isn't 12."""
-    plan = ["fault", number, "counts", *lent((), counts)] if number != 12 else [1, 1, "short", 0, 1, "counts", 1, 0, 0, *lent((), counts - 3)]
-    lines = line("plan", *plan)
-    lines += line("place", "fault", number, "marks", *lent((), marks, UNTOUCHED_MARK), "flow", *lent((), flow))
-    return case(sheet, place, counts, flow, marks), lines + line("check", *checked)
+def refused_plan(number, counts):
+    return line("plan", "fault", number, "counts", *lent((), counts))
 
 
-def faults():
-    """The sheet of 78 bytes has 3 places, 1 pair and 3 events."""
-    sheet, at = plans.LISTED.sheet(), plans.LISTED
-    plan_line = line("plan", 1, 1, "short", 0, 1, "counts", 1, 0, 0)
-    yield refused(12, sheet, 3, 3, 4, 3, ("fault", 12))
-    yield refused(12, sheet, 65535, 5, 3, 2, ("fault", 12))
-    yield refused(13, sheet, 0, 2, 3, 3, ("fault", 13))
-    yield refused(13, sheet, 2, 0, 0, 0, ("fault", 13))
-    too_few_marks = line("place", "fault", 13, "marks", *[UNTOUCHED_MARK] * 2, "flow", *[UNTOUCHED] * 4)
-    yield case(sheet, 1, 3, 4, 2), plan_line + too_few_marks + line("check", "invalid")
-    just_enough = line("place", "short", 1, "marks", 0, 0, 0, "flow", 0, 0, 0, 0)
-    yield case(sheet, 0, 3, 4, 3), plan_line + just_enough + line("check", "invalid")
-    twice = plans.Plan(at.opening, at.transitions, at.labels, ((0, 1), (0, 1)))
-    cycle = plans.Plan(at.opening, at.transitions, at.labels, ((0, 1), (1, 0)))
-    for number, faulty in ((1, b""), (1, sheet[:31]), (4, sheet + b"\0"), (4, sheet[:-1]), (10, twice.sheet()), (11, cycle.sheet())):
-        yield refused(number, faulty, 0, 4, 6, 5, ("fault", number))
-        yield refused(number, faulty, 3, 0, 0, 0, ("fault", number))
+def refused_place(number, flow, marks):
+    return line("place", "fault", number, "marks", *lent((), marks, UNTOUCHED_MARK), "flow", *lent((), flow))
+
+
+def refused(number, sheet, place, counts, flow, marks):
+    """A case whose three calls are all refused with this number."""
+    lines = refused_plan(number, counts) + refused_place(number, flow, marks) + line("check", "fault", number)
+    return case(sheet, place, counts, flow, marks), lines
+
+
+def listed(counts):
+    """The plan judgement of the sheet of 78 bytes, which has 3 places, 1 pair and 3 events."""
+    return line("plan", 1, 1, "short", 0, 1, "counts", *lent((1, 0, 0), counts))
+
+
+def faults_of_a_call():
+    sheet = plans.LISTED.sheet()
+    for place, counts, flow, marks in ((3, 3, 4, 3), (65535, 5, 3, 2)):
+        yield case(sheet, place, counts, flow, marks), listed(counts) + refused_place(12, flow, marks) + line("check", "fault", 12)
+    yield refused(13, sheet, 0, 2, 3, 3)
+    yield refused(13, sheet, 2, 0, 0, 0)
+    # too few marks alone: the flow row of greatest numbers is no flow
+    yield case(sheet, 1, 3, 4, 2), listed(3) + refused_place(13, 4, 2) + line("check", "invalid")
+    # just enough of everything
+    place_line = line("place", "short", 1, "marks", 0, 0, 0, "flow", 0, 0, 0, 0)
+    yield case(sheet, 0, 3, 4, 3), listed(3) + place_line + line("check", "invalid")
+
+
+def faulty_sheets():
+    """A sheet's own fault comes before a wrong place and rows that are too short."""
+    sheet, net = plans.LISTED.sheet(), (plans.LISTED.opening, plans.LISTED.transitions, plans.LISTED.labels)
+    twice, cycle = plans.Plan(*net, ((0, 1), (0, 1))).sheet(), plans.Plan(*net, ((0, 1), (1, 0))).sheet()
+    for number, faulty in ((1, b""), (1, sheet[:31]), (4, sheet + b"\0"), (4, sheet[:-1]), (10, twice), (11, cycle)):
+        yield refused(number, faulty, 0, 4, 6, 5)
+        yield refused(number, faulty, 3, 0, 0, 0)
 
 
 def main():
     here = os.path.dirname(os.path.abspath(__file__))
     directory = sys.argv[1] if len(sys.argv) > 1 else os.path.join(here, "..", "crates", "judgements_test")
     with open(os.path.join(directory, "stdin"), "wb") as given, open(os.path.join(directory, "stdout"), "w") as expected:
-        for group in (examples, faults):
+        for group in (examples, faults_of_a_call, faulty_sheets):
             for cases, lines in group():
                 given.write(cases)
                 expected.write(lines)
