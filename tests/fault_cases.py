@@ -11,7 +11,7 @@ import os
 import struct
 import sys
 
-from separate import LIMITS, fault, item_lengths
+import separate
 
 
 class Plan:
@@ -23,18 +23,10 @@ class Plan:
         self.first_start, self.tail, self.cut = 32, b"", None
 
     def sheet(self):
-        counts = (len(self.opening), len(self.weights), len(self.events), len(self.pairs))
-        start, table = 32, []
-        for count, size in zip(counts, item_lengths(counts[0])):
-            table += [start, count]
-            start += count * size
-        table[0] = self.first_start
-        body = struct.pack("<8I", *table)
-        body += b"".join(struct.pack("<I", count) for count in self.opening)
-        body += b"".join(struct.pack("<H", weight) for row in self.weights for weight in row)
-        body += b"".join(struct.pack("<H", label) for label in self.events)
-        body += b"".join(struct.pack("<2H", *ends) for ends in self.pairs)
-        return (body + self.tail)[:self.cut]
+        places = len(self.opening)
+        transitions = [(row[:places], row[places:]) for row in self.weights]
+        sheet = separate.Plan(self.opening, transitions, self.events, self.pairs).sheet()
+        return (struct.pack("<I", self.first_start) + sheet[4:] + self.tail)[:self.cut]
 
 
 # a way to bring each fault into a plan, so that any two can be brought in together
@@ -190,7 +182,7 @@ def layouts():
     yield 8, "a pair with no event to name", Plan((), (), (), ((0, 0),)).sheet()
     for entry in range(4):
         words = [32, 0, 32, 0, 32, 0, 32, 0]
-        words[2 * entry + 1] = LIMITS[entry] + 1
+        words[2 * entry + 1] = separate.LIMITS[entry] + 1
         yield 2, "entry %d: one item too many, no body" % entry, table(*words)
         words[2 * entry + 1] = 4294967295
         yield 2, "entry %d: 4,294,967,295 items" % entry, table(*words)
@@ -261,7 +253,7 @@ def scattered():
 def cases():
     for group in (small_examples, limits, two_faults, truncations, layouts, names, repeats, cycles, scattered):
         for meant, name, sheet in group():
-            number = fault(sheet)
+            number = separate.fault(sheet)
             if meant not in (None, number):
                 sys.exit("%s: %d is meant, and the table says %d" % (name, meant, number))
             yield number, name.encode(), sheet
