@@ -10,7 +10,7 @@
 #include <time.h>
 
 #ifdef HAVE_ARCHIVE
-uint32_t reedanchor_judge(const uint8_t *sheet, size_t length);
+#include "../include/reedanchor.h"
 #else
 #define reedanchor_judge NULL
 #endif

@@ -23,6 +23,11 @@ static const char *const faults[] = {
     [REEDANCHOR_CYCLE] = "the order has a cycle",
 };
 
+static const char *reason(uint32_t fault)
+{
+    return fault < sizeof faults / sizeof faults[0] ? faults[fault] : "for a reason that this program doesn't know";
+}
+
 /* Prints what is said of the sheet. Returns whether its plan runs. */
 static int judge(const char *name, const uint8_t *sheet, size_t length)
 {
@@ -34,7 +39,7 @@ static int judge(const char *name, const uint8_t *sheet, size_t length)
     if (answer >= REEDANCHOR_SHORT)
         printf("%s: %u: short, first at place %u\n", name, (unsigned)answer, (unsigned)(answer - REEDANCHOR_SHORT));
     else
-        printf("%s: %u: refused, %s\n", name, (unsigned)answer, faults[answer]);
+        printf("%s: %u: refused, %s\n", name, (unsigned)answer, reason(answer));
     return 0;
 }
 

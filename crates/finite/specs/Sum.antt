@@ -1,6 +1,6 @@
 -- Finite sums: of the numbers f i with i below a bound, of those at members of a set, and of those whose index has a given end.
-use Prim.Native.Nat.{ℕ, zero, suc, _+_, _≤_, _<_}
-use native.Mathlib.Nat.{le-step, lt-suc-self, not-suc-le-zero, le-refl, add-zero, zero-add, lt-irrefl, lt-of-lt-of-le, eq-or-lt-of-le}
+use Prim.Native.Nat.{ℕ, zero, suc, _+_, _*_, _≤_, _<_}
+use native.Mathlib.Nat.{le-step, lt-suc-self, not-suc-le-zero, le-refl, add-zero, zero-add, lt-irrefl, lt-of-lt-of-le, eq-or-lt-of-le, mul-suc}
 use mathlib.Core.List.{List}
 use mathlib.Core.Logic.{⊎-elim}
 use native.Mathlib.Numerals.{add-one}
@@ -74,6 +74,13 @@ pub sum-zero : (n : ℕ) (f : ℕ → ℕ) → ((i : ℕ) → i < n → f i ≡ 
 unfolding sum
 sum-zero zero f h = refl
 sum-zero (suc n) f h = omega (arith, sum-zero n f (λ i l. h i (le-step l)), h n (lt-suc-self n))
+
+-- n terms of at most k each
+pub sum-most : (n k : ℕ) (f : ℕ → ℕ) → ((i : ℕ) → i < n → f i ≤ k) → sum n f ≤ k * n
+unfolding sum
+sum-most zero k f h = omega arith
+sum-most (suc n) k f h =
+    omega (arith, mul-suc k n, sum-most n k f (λ i l. h i (le-step l)), h n (lt-suc-self n))
 
 -- one term is at most the sum
 pub sum-term : (n : ℕ) (f : ℕ → ℕ) (k : ℕ) → k < n → f k ≤ sum n f

@@ -1,1 +1,2 @@
 pub mod Till
+pub mod Laws

@@ -1,4 +1,4 @@
-// Settles a place: searches and walks by turns, until no giver that a taker could draw on has tokens free.
+// Settles a place: searches and moves tokens by turns, until no giver that a taker could draw on has tokens free.
 ghost use Prim.Native.Nat.{_<_, _≤_};
 ghost use lib.ListN.{length};
 ghost use Rattle.marks.specs.Marks.{HasRow};
@@ -11,6 +11,8 @@ ghost use Rattle.exchange.specs.Walk.{trailRows};
 ghost use Rattle.settle.specs.Finished.{Advanced, Finished, FreeSaid, HasFree, Rounded};
 use exchange::walk;
 use marks::Found;
+use push::push;
+use push::set_levels;
 use search::search;
 
 // Whether u was met and has tokens free.
@@ -42,69 +44,8 @@ fn find_free(givers: &[u32], free: &[u32], n: usize) -> Found
     Found::Nothing
 }
 
-// Walks from u if it was met.
-fn walk_met(
-    pred: &[u32],
-    givers: &[u32],
-    queue: &[usize],
-    origin: &[usize],
-    via: &[usize],
-    amount: &mut [u32],
-    fed: &mut [u32],
-    free: &mut [u32],
-    share: &mut [u32],
-    u: usize,
-    n: usize,
-)
-    requires { ⌜ Flowing n (now pred) (rows (now amount) (now fed) (now free) (now share)) ⌝ }
-    requires { ⌜ Order n (now pred) ⌝ }
-    requires { ⌜ HasRow (now givers) 0 ⌝ }
-    requires { ⌜ (256 ≤ length (now queue)) × (256 ≤ length (now origin)) × (256 ≤ length (now via)) ⌝ }
-    requires { ⌜ u < n ⌝ }
-    ensures { λ _. ⌜ Moved n (now (pred .entry)) (rows (now (amount .entry)) (now (fed .entry)) (now (free .entry)) (now (share .entry))) (rows (now (amount .exit)) (now (fed .exit)) (now (free .exit)) (now (share .exit))) ⌝ }
-{
-    if marks::is_marked(givers, 0, u) {
-        walk(pred, queue, origin, via, amount, fed, free, share, u, n);
-    }
-}
-
-// Walks from each giver that was met, as far as that still leads anywhere.
-fn walk_rest(
-    pred: &[u32],
-    givers: &[u32],
-    queue: &[usize],
-    origin: &[usize],
-    via: &[usize],
-    amount: &mut [u32],
-    fed: &mut [u32],
-    free: &mut [u32],
-    share: &mut [u32],
-    n: usize,
-)
-    requires { ⌜ Flowing n (now pred) (rows (now amount) (now fed) (now free) (now share)) ⌝ }
-    requires { ⌜ Order n (now pred) ⌝ }
-    requires { ⌜ HasRow (now givers) 0 ⌝ }
-    requires { ⌜ (256 ≤ length (now queue)) × (256 ≤ length (now origin)) × (256 ≤ length (now via)) ⌝ }
-    ensures { λ _. ⌜ Moved n (now (pred .entry)) (rows (now (amount .entry)) (now (fed .entry)) (now (free .entry)) (now (share .entry))) (rows (now (amount .exit)) (now (fed .exit)) (now (free .exit)) (now (share .exit))) ⌝ }
-{
-    for u in 0..n {
-        walk_met(
-            pred,
-            givers,
-            queue,
-            origin,
-            via,
-            amount,
-            fed,
-            free,
-            share,
-            u,
-            n,
-        );
-    }
-}
-
-// Walks from a giver that was met and has tokens free, and then from the others. Returns whether there was one.
+// Walks from a giver that was met and has tokens free, and then pushes what is free down the levels of the search. Returns whether there
+// was one.
 fn advance(
     pred: &[u32],
     givers: &[u32],
@@ -115,12 +56,14 @@ fn advance(
     fed: &mut [u32],
     free: &mut [u32],
     share: &mut [u32],
+    tail: usize,
     n: usize,
 ) -> bool
     requires { ⌜ Flowing n (now pred) (rows (now amount) (now fed) (now free) (now share)) ⌝ }
     requires { ⌜ Order n (now pred) ⌝ }
     requires { ⌜ HasRow (now givers) 0 ⌝ }
     requires { ⌜ (256 ≤ length (now queue)) × (256 ≤ length (now origin)) × (256 ≤ length (now via)) ⌝ }
+    requires { ⌜ tail ≤ 256 ⌝ }
     ensures { λ r. ⌜ Moved n (now (pred .entry)) (rows (now (amount .entry)) (now (fed .entry)) (now (free .entry)) (now (share .entry))) (rows (now (amount .exit)) (now (fed .exit)) (now (free .exit)) (now (share .exit))) ⌝ }
     ensures { λ r. ⌜ Advanced n (now (pred .entry)) (now (givers .entry)) (trailRows (now (queue .entry)) (now (origin .entry)) (now (via .entry))) (rows (now (amount .entry)) (now (fed .entry)) (now (free .entry)) (now (share .entry))) (rows (now (amount .exit)) (now (fed .exit)) (now (free .exit)) (now (share .exit))) r ⌝ }
 {
@@ -128,23 +71,26 @@ fn advance(
     let Found::At(u) = found else {
         return false;
     };
+    let mut levels = [0usize; 256];
+    set_levels(share, queue, origin, via, tail, &mut levels);
     walk(pred, queue, origin, via, amount, fed, free, share, u, n);
-    walk_rest(
+    push(
         pred,
         givers,
         queue,
-        origin,
         via,
+        &levels,
         amount,
         fed,
         free,
         share,
+        tail,
         n,
     );
     true
 }
 
-// One search, and the walks that it leads to. Returns whether less is lacking now.
+// One search, and the moves that it leads to. Returns whether less is lacking now.
 fn round(
     pred: &[u32],
     amount: &mut [u32],
@@ -164,7 +110,7 @@ fn round(
     ensures { λ r. ⌜ Moved n (now (pred .entry)) (rows (now (amount .entry)) (now (fed .entry)) (now (free .entry)) (now (share .entry))) (rows (now (amount .exit)) (now (fed .exit)) (now (free .exit)) (now (share .exit))) ⌝ }
     ensures { λ r. ⌜ Rounded n (now (pred .entry)) (rows (now (amount .entry)) (now (fed .entry)) (now (free .entry)) (now (share .entry))) (rows (now (amount .exit)) (now (fed .exit)) (now (free .exit)) (now (share .exit))) (now (takers .exit)) (now (givers .exit)) r ⌝ }
 {
-    search(pred, fed, share, n, takers, givers, queue, origin, via);
+    let tail = search(pred, fed, share, n, takers, givers, queue, origin, via);
     advance(
         pred,
         givers,
@@ -175,6 +121,7 @@ fn round(
         fed,
         free,
         share,
+        tail,
         n,
     )
 }

@@ -5,7 +5,7 @@ use mathlib.Core.Bool.{Bool, true, false, cond, true≢false, _||_}
 use mathlib.Core.List.{List, [], _∷_, _++_}
 use mathlib.Core.Path.{_≡_, refl}
 use borrow.Author.Tests.{ltb-false, leb-false, eqb-false}
-use lib.Dec.{T, leb, ltb, eqb, ltb→lt}
+use lib.Dec.{T, leb, ltb, eqb, ltb→lt, leb→le}
 use mir.Facts.{yes-and, yes-eqb}
 use Rattle.finite.specs.Search.{search-none, fails}
 use Rattle.plan.specs.Net.{Plan, Labelled}
@@ -36,6 +36,26 @@ absent [] s numbered e = tt
 absent (f ∷ fs) s numbered e =
     let here = passed (f .1 s) (f .0) (firstFault fs s) (ltb→lt 0 (f .0) (numbered .0)) e in
     (here .0, absent fs s (numbered .1) (here .1))
+
+-- and at most k
+abbrev AtMost : ℕ → List (ℕ × (List ℕ → Bool)) → Type 0
+AtMost k [] = Unit
+AtMost k (f ∷ fs) = T (leb (f .0) k) × AtMost k fs
+
+either-most : (b : Bool) (x y k : ℕ) → x ≤ k → y ≤ k → cond b x y ≤ k
+either-most true x y k l m = l
+either-most false x y k l m = m
+
+first-most : (fs : List (ℕ × (List ℕ → Bool))) (s : List ℕ) (k : ℕ) → AtMost k fs → firstFault fs s ≤ k
+unfolding firstFault
+first-most [] s k h = omega arith
+first-most (f ∷ fs) s k h =
+    either-most (f .1 s) (f .0) (firstFault fs s) k (leb→le (f .0) k (h .0)) (first-most fs s k (h .1))
+
+-- The faults of a sheet are numbered up to 11.
+pub fault-most : (s : List ℕ) → faultOf s ≤ 11
+unfolding faultOf faults layoutFaults contentFaults
+fault-most s = first-most faults s 11 (tt, (tt, (tt, (tt, (tt, (tt, (tt, (tt, (tt, (tt, (tt, tt)))))))))))
 
 pub record Faultless (s : List ℕ) : Type 0 where
   pub laid : Laid s

@@ -6,7 +6,7 @@ use mathlib.Core.Path.{_≡_, ap, _∙_}
 use lib.Dec.{T, T-not}
 use Rattle.finite.specs.Bounded.{decide}
 use Rattle.finite.specs.Subset.{Set, Within, empty, greatest-bounds, greatest-attained}
-use Rattle.finite.specs.Sum.{on, over, on-yes, on-no, over-either}
+use Rattle.finite.specs.Sum.{on, sum, over, on-yes, on-no, over-either, over-all}
 use Rattle.plan.specs.Net.{Net, Plan, takenBy, givenBy}
 use Rattle.plan.specs.Order.{Sound}
 use Rattle.plan.specs.Prefix.{IsPrefix, prefix, front, tokens, lack, above0, missing}
@@ -52,3 +52,10 @@ module _ (N : Net) (P : Plan) (p : ℕ) where
         (λ t. (D, prefix-is P D S (w .1) .0 t, omega (arith, w .2, on-yes (prefix P D) (above0 (lack N P p D)) t, lack-above0 D)))
         (λ t. (empty, empty-prefix P, omega (arith, w .2, on-no (prefix P D) (above0 (lack N P p D)) (T-not (prefix P D) t), missing-bounds empty (empty-prefix P))))
         (decide (prefix P D))
+
+    -- no more is missing than all events take
+    pub missing-most : missing N P p ≤ sum (P .events) (takenBy N P p)
+    unfolding taken
+    missing-most =
+        let w = missing-attained in
+        omega (arith, w .2, over-all (P .events) (reached P (w .0)) (takenBy N P p))

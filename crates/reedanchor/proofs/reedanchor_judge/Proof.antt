@@ -5,7 +5,8 @@ use native.Mathlib.Omega.{arith}
 use denote.Ref.{now}
 use lib.ListN.{length, replicate, length-replicate}
 use Rattle.reedanchor.specs.Till.{answerNumber, tillAnswer}
-use Rattle.reedanchor.proofs.Told.{till-is, till-fits}
+use Rattle.reedanchor.specs.Laws.{till-fits}
+use Rattle.reedanchor.proofs.Told.{till-is}
 use borrow.Author.Needs.{needs}
 use Rattle.reedanchor.proofs.reedanchor_judge.Statement.{statement}
 use Rattle.reedanchor.proofs.reedanchor_judge.Tie as tie

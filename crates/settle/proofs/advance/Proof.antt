@@ -1,12 +1,12 @@
 -- `settle::advance` meets its contract.
 use mathlib.Core.Path.{refl, subst}
-use borrow.Author.Needs.{needs}
 use Rattle.marks.specs.Search.{Tells}
 use Rattle.tokenflow.specs.Rows.{rows}
 use Rattle.drawing.specs.Moves.{moved-none, moved-then}
 use Rattle.exchange.specs.Walk.{trailRows}
 use Rattle.settle.specs.Finished.{HasFree}
 use Rattle.settle.proofs.Rounds.{advanced}
+use borrow.Author.Needs.{needs}
 use Rattle.settle.proofs.advance.Statement.{statement}
 use Rattle.settle.proofs.advance.Tie as tie
 
@@ -23,22 +23,20 @@ same-length : tie.Need-same-length
 same-length c = search needs
 
 returns : tie.Need-returns
-returns c =
-    let s = c .before .before .before .before .before .before .before .before .before .before .before .before .before in
-    let a = s .args in
-    (moved-none (a .n) (a .pred .now) (rows (a .amount .now) (a .fed .now) (a .free .now) (a .share .now)) (s .pre .0), (refl, subst (Tells (HasFree (a .givers .now) (a .free .now) (a .n))) (c .enum-told .given .1) (c .before .before .find-free .ensures)))
+returns c = let s = c .before .before .before .before .before .before .before .before .before .before .before .before .before in let a = s .args in (moved-none (a .n) (a .pred .now) (rows (a .amount .now) (a .fed .now) (a .free .now) (a .share .now)) (s .pre .0), (refl, subst (Tells (HasFree (a .givers .now) (a .free .now) (a .n))) (c .enum-told .given .1) (c .before .before .find-free .ensures)))
+
+set-levels-requires : tie.Need-set-levels-requires
+set-levels-requires c κs = search needs
 
 -- u was met and has tokens free
 there : (c : tie.After-found) → let a = c .before .before .before .before .before .before .before .before .before .before .before .before .before .args in HasFree (a .givers .now) (a .free .now) (a .n) (c .found .given .0 .0)
-there c =
-    let a = c .before .before .before .before .before .before .before .before .before .before .before .before .before .args in
-    subst (Tells (HasFree (a .givers .now) (a .free .now) (a .n))) (c .found .given .1) (c .before .before .find-free .ensures)
+there c = let a = c .before .before .before .before .before .before .before .before .before .before .before .before .before .args in subst (Tells (HasFree (a .givers .now) (a .free .now) (a .n))) (c .found .given .1) (c .before .before .find-free .ensures)
 
 walk-requires : tie.Need-walk-requires
-walk-requires c κs = let s = c .before .before .before .before .before .before .before .before .before .before .before .before .before .before .before .before .before .before in (s .pre .0, (s .pre .1 .0 .rows, (s .pre .1 .1 .1, there (c .before .before .before .before .before) .event)))
+walk-requires c κs = let s = c .before .before .before .before .before .before .before .before .before .before .before .before .before .before .before .before .before .before .before .before .before in (s .pre .0, (s .pre .1 .0 .rows, (s .pre .1 .1 .1 .0, there (c .before .before .before .before .before .before .before .before) .event)))
 
-walk-rest-requires : tie.Need-walk-rest-requires
-walk-rest-requires c κs = search needs
+push-requires : tie.Need-push-requires
+push-requires c κs = let s = c .before .before .before .before .before .before .before .before .before .before .before .before .before .before .before .before .before .before .before .before .before .before .before .before .before .before .before .before .before .before .before .before .before .before .before in let q = s .pre .1 .1 .1 .0 in (c .before .before .before .before .before .before .before .before .before .before .before .before .before .walk .ensures .0 .flows, (s .pre .1 .0, (s .pre .1 .1 .0, ((q .0, q .2), s .pre .1 .1 .1 .1))))
 
 same-length-2 : tie.Need-same-length-2
 same-length-2 c = search needs
@@ -53,14 +51,7 @@ same-length-5 : tie.Need-same-length-5
 same-length-5 c = search needs
 
 returns-2 : tie.Need-returns-2
-returns-2 c =
-    let s = c .before .before .before .before .before .before .before .before .before .before .before .before .before .before .before .before .before .before .before .before .before .before .before .before .before .before .before .before .before .before .before .before .before .before .before .before .before .before .before .before in
-    let a = s .args in
-    let w = c .before .before .before .before .before .before .before .before .before .before .before .before .before .before .before .before .before .before .before .before .before .walk in
-    let k = c .before .before .before .before .before .before .before .before .walk-rest in (
-      moved-then (a .n) (a .pred .now) (rows (a .amount .now) (a .fed .now) (a .free .now) (a .share .now)) (rows (w .last .1 .1 .1 .1 .0) (w .last .1 .1 .1 .1 .1 .0) (w .last .1 .1 .1 .1 .1 .1 .0) (w .last .1 .1 .1 .1 .1 .1 .1 .0)) _ (w .ensures .0) (k .ensures),
-      advanced (a .n) (a .pred .now) (a .givers .now) (trailRows (a .queue .now) (a .origin .now) (a .via .now)) (rows (a .amount .now) (a .fed .now) (a .free .now) (a .share .now)) (rows (w .last .1 .1 .1 .1 .0) (w .last .1 .1 .1 .1 .1 .0) (w .last .1 .1 .1 .1 .1 .1 .0) (w .last .1 .1 .1 .1 .1 .1 .1 .0)) _ (c .before .before .before .before .before .before .before .before .before .before .before .before .before .before .before .before .before .before .before .before .before .before .before .before .before .before .before .found .given .0 .0) (w .result) (s .pre .0 .events) (there (c .before .before .before .before .before .before .before .before .before .before .before .before .before .before .before .before .before .before .before .before .before .before .before .before .before .before .before)) (w .ensures .1) (k .ensures),
-    )
+returns-2 c = let s = c .before .before .before .before .before .before .before .before .before .before .before .before .before .before .before .before .before .before .before .before .before .before .before .before .before .before .before .before .before .before .before .before .before .before .before .before .before .before .before .before .before .before .before .before in let a = s .args in let f = c .before .before .before .before .before .before .before .before .before .before .before .before .before .before .before .before .before .before .before .before .before .before .before .before .before .before .before .before .before .before .before in let w = c .before .before .before .before .before .before .before .before .before .before .before .before .before .before .before .before .before .before .before .before .before .before .walk in let k = c .before .before .before .before .before .before .before .before .push in (moved-then (a .n) (a .pred .now) (rows (a .amount .now) (a .fed .now) (a .free .now) (a .share .now)) (rows (w .last .1 .1 .1 .1 .0) (w .last .1 .1 .1 .1 .1 .0) (w .last .1 .1 .1 .1 .1 .1 .0) (w .last .1 .1 .1 .1 .1 .1 .1 .0)) _ (w .ensures .0) (k .ensures), advanced (a .n) (a .pred .now) (a .givers .now) (trailRows (a .queue .now) (a .origin .now) (a .via .now)) (rows (a .amount .now) (a .fed .now) (a .free .now) (a .share .now)) (rows (w .last .1 .1 .1 .1 .0) (w .last .1 .1 .1 .1 .1 .0) (w .last .1 .1 .1 .1 .1 .1 .0) (w .last .1 .1 .1 .1 .1 .1 .1 .0)) _ (f .found .given .0 .0) (w .result) (s .pre .0 .events) (there f) (w .ensures .1) (k .ensures))
 
 pub advance-spec : {M : Type 1} → statement M
 advance-spec =
@@ -71,8 +62,9 @@ advance-spec =
     enum-told
     same-length
     returns
+    set-levels-requires
     walk-requires
-    walk-rest-requires
+    push-requires
     same-length-2
     same-length-3
     same-length-4

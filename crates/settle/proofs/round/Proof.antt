@@ -23,11 +23,12 @@ advance-requires : tie.Need-advance-requires
 advance-requires c κs =
     let s = c .before .before .before .before .before .before .before .before .before .before .before .before .before .before .before .before .before .before .before .before .before .before .before .before .before .before .before .before .before .before .before .before .before .before .before .before in
     let r = s .pre .1 .1 in
-    let k = c .before .before .before .before .before .before .before .before .before .before .before .before .before .before .before .before .before .before .search .kept in (
+    let d = c .before .before .before .before .before .before .before .before .before .before .before .before .before .before .before .before .before .before .search in
+    let k = d .kept in (
       s .pre .0,
       (
         s .pre .1 .0,
-        (omega (arith, k .1 .1 .1 .1 .1 .0, r .for-givers), (omega (arith, k .1 .1 .1 .1 .1 .1 .0, r .for-queue), omega (arith, k .1 .1 .1 .1 .1 .1 .1 .0, r .for-origin), omega (arith, k .1 .1 .1 .1 .1 .1 .1 .1 .0, r .for-via))),
+        (omega (arith, k .1 .1 .1 .1 .1 .0, r .for-givers), ((omega (arith, k .1 .1 .1 .1 .1 .1 .0, r .for-queue), omega (arith, k .1 .1 .1 .1 .1 .1 .1 .0, r .for-origin), omega (arith, k .1 .1 .1 .1 .1 .1 .1 .1 .0, r .for-via)), omega (arith, d .ensures .fits, s .pre .0 .events))),
       ),
     )
 

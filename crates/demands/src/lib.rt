@@ -1,0 +1,1 @@
+// Demand 3 about the counts that the calls return, in specs/. No code.
