@@ -86,4 +86,4 @@ digit-put row at n b low is l = rw (decimal-small n low, ← is) (put-byte row a
 
 pub last-put : (old mid : List ℕ) (at n end b : ℕ) → 10 ≤ n → b ≡ 48 + n % 10 → end < length mid → Put old mid at (decimal (n / 10)) end → Put old (set mid end b) at (decimal n) (end + 1)
 last-put old mid at n end b high is l h =
-    rw (decimal-large n high, ← is) (put-then old mid (set mid end b) at (decimal (n / 10)) (b ∷ []) end (end + 1) h (put-byte mid end b l))
+    rw (decimal-large n high, ← is) (put-then h (put-byte mid end b l))

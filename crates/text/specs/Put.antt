@@ -43,8 +43,8 @@ put-byte row at b l =
     }
 
 -- one text after another
-pub put-then : (old mid new : List ℕ) (at : ℕ) (text more : List ℕ) (between end : ℕ) → Put old mid at text between → Put mid new between more end → Put old new at (text ++ more) end
-put-then old mid new at text more between end first second =
+pub put-then : {old mid new : List ℕ} {at : ℕ} {text more : List ℕ} {between end : ℕ} → Put old mid at text between → Put mid new between more end → Put old new at (text ++ more) end
+put-then {old} {mid} {new} {at} {text} {more} {between} {end} first second =
     record {
       is =
           second .is
@@ -71,7 +71,7 @@ module _ (old : List ℕ) (at : ℕ) (word : List ℕ) where
 
   pub word-more : (row : List ℕ) (i : ℕ) → at + i < length row → i < length word → Put old row at (take i word) (at + i) → Put old (set row (at + i) (getD word i 0)) at (take (i + 1) word) (at + (i + 1))
   word-more row i l m h =
-      rw (add-one, take-suc word i 0, ← add-one, ← add-assoc) (put-then old row _ at (take i word) (getD word i 0 ∷ []) (at + i) (at + i + 1) h (put-byte row (at + i) (getD word i 0) l))
+      rw (add-one, take-suc word i 0, ← add-one, ← add-assoc) (put-then h (put-byte row (at + i) (getD word i 0) l))
 
   pub word-done : (row : List ℕ) (i : ℕ) → i ≤ length word → length word ≤ i → Put old row at (take i word) (at + i) → Put old row at word (at + length word)
   word-done row i l m h =

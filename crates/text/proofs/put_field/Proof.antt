@@ -20,7 +20,7 @@ same-length c = search needs
 returns : tie.Need-returns
 returns c =
     let start = c .before .before .before .before .before .before .before .before .before .before in (
-      put-then _ _ _ _ _ _ _ _ (c .before .before .before .before .before .before .put-word .ensures) (c .before .before .put-number .ensures),
+      put-then (c .before .before .before .before .before .before .put-word .ensures) (c .before .before .put-number .ensures),
       omega (arith, ten-digits (start .args .n) (start .fits .n .fits)),
     )
 
