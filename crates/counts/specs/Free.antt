@@ -5,10 +5,10 @@ use native.Mathlib.Omega.{arith}
 use mathlib.Core.Bool.{Bool, true, false, not, _&&_, _||_}
 use mathlib.Core.Logic.{_⊎_, inl, inr, ⊎-elim}
 use mathlib.Core.Path.{_≡_, refl, sym, ap, subst, _∙_}
-use lib.Dec.{T, eqb, eqb→eq, eqb-refl, ltb, ltb→lt, nltb→le}
+use lib.Dec.{T, eqb, eqb→eq, ltb, ltb→lt, nltb→le}
 use mir.Facts.{and-yes, yes-and, or-yes, yes-eqb}
 use Rattle.finite.specs.Bounded.{any, any-yes, decide, same, yes-or-left, yes-or-right}
-use Rattle.finite.specs.Sum.{on, sum, on-no, sum-ext, sum-add, sum-one, sum-zero, on-sum}
+use Rattle.finite.specs.Sum.{on, sum, sum-ext, sum-add, sum-one, on-sum}
 use Rattle.plan.specs.Net.{Plan}
 use Rattle.plan.specs.Order.{Before, pair, chain, Sound, paired, free}
 

@@ -1,7 +1,7 @@
 // What the listing counts besides what is missing: the free count of a plan, and the two sides of a place's end count.
 ghost use Prim.Native.Nat.{_+_, _*_, _<_, _≤_};
 ghost use mathlib.Core.Path.{_≡_};
-ghost use Rattle.sheet.specs.Table.{placesOf, eventsOf};
+ghost use Rattle.sheet.specs.Table.{eventsOf};
 ghost use Rattle.sheet.specs.Faultless.{Faultless};
 ghost use Rattle.reader.specs.Reads.{Reads};
 ghost use Rattle.counts.specs.Ends.{gainedBy, lostBy};

@@ -1,5 +1,5 @@
 // The lines of a listing, each written into a row of bytes. A call returns where its text ends and leaves the rest of the row.
-ghost use Prim.Native.Nat.{_+_, _*_, _<_, _≤_};
+ghost use Prim.Native.Nat.{_+_, _<_, _≤_};
 ghost use mathlib.Core.Path.{_≡_};
 ghost use lib.IntN.{subℕ};
 ghost use lib.ListN.{length};

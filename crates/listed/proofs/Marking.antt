@@ -15,7 +15,7 @@ use Rattle.calls.specs.Call.{placeFault, a-place, long-row}
 use Rattle.calls.specs.FlowRow.{flowLength, flowFault}
 use Rattle.calls.specs.Overwritten.{overwritten, over-first, at-none}
 use Rattle.place_judgement.specs.Judgement.{judgeFault, doneMark, marksAfter}
-use Rattle.lines.specs.Listing.{field, doneEvents, firstLine}
+use Rattle.lines.specs.Listing.{field, firstLine}
 use Rattle.lines.specs.Marked.{marked}
 use Rattle.lines.specs.Each.{done-ext}
 use Rattle.text.specs.Words.{word}
