@@ -1,0 +1,5 @@
+pub mod Listing
+pub mod Marked
+pub mod Each
+pub mod Counted
+pub mod Examples
