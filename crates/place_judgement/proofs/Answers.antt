@@ -1,5 +1,6 @@
 -- The answer of the place judgement and its rows, at each place where it is given.
 use Prim.Native.Nat.{ℕ, zero, suc, _+_, _<_, _≤_}
+use native.Mathlib.Omega.{arith}
 use mathlib.Core.List.{List}
 use mathlib.Core.Path.{_≡_, refl, sym, ap, subst, _∙_}
 use borrow.Author.Tests.{eqb-false}
@@ -12,9 +13,19 @@ use Rattle.calls.specs.Call.{placeFault, sheet-first, no-place, a-place, lower-
 use Rattle.calls.specs.FlowRow.{flowLength, flowFault}
 use Rattle.calls.specs.Overwritten.{overwritten, unlessFault, at-fault, at-none}
 use Rattle.place_judgement.specs.declared.Judgement.{Judgement}
-use Rattle.place_judgement.specs.declared.Judgement.the-variants.{Fault}
-use Rattle.place_judgement.specs.Judgement.{answer, judgeFault, judgementOf, doneMark, marksAfter}
-use Rattle.place_judgement.specs.Handed.{Handed, Written}
+use Rattle.place_judgement.specs.declared.Judgement.the-variants.{Fault, Runs, Short}
+use Rattle.handing.specs.Handed.{doneMark, Written}
+use Rattle.place_judgement.specs.Judgement.{answer, judgeFault, judgementOf, marksAfter, Handed}
+
+runs-is : (m k : ℕ) → m ≡ k → m ≡ 0 → Runs ≡ answer 0 k
+unfolding answer
+runs-is m zero e none = refl
+runs-is m (suc k) e none = let no : ⊥ = omega arith in absurd no
+
+short-is : (m k : ℕ) → m ≡ k → ¬ (m ≡ 0) → Short m ≡ answer 0 k
+unfolding answer
+short-is m zero e some = absurd (some e)
+short-is m (suc k) e some = ap Short e
 
 module _ (s : List ℕ) (p : ℕ) (flow marks : List ℕ) where
   -- what is promised of an answer and of the rows at return
@@ -70,7 +81,7 @@ module _ (s : List ℕ) (p : ℕ) (flow marks : List ℕ) where
           unfolding judgeFault
           clear = long-row (flowFault s p flow) marks (eventsOf s) flow-clear room
 
-          pub judged-told : (r : Judgement) (flow′ marks′ : List ℕ) → r ≡ answer 0 (missing (netOf s) (planOf s) p)
+          judged-told : (r : Judgement) (flow′ marks′ : List ℕ) → r ≡ answer 0 (missing (netOf s) (planOf s) p)
               → marks′ ≡ overwritten (doneMark (netOf s) (planOf s) p) (eventsOf s) marks → Written s p flow flow′ → Answered r flow′ marks′
           unfolding judgementOf marksAfter
           judged-told r flow′ marks′ e d w = (
@@ -80,3 +91,11 @@ module _ (s : List ℕ) (p : ℕ) (flow marks : List ℕ) where
               record { fault = λ some. absurd (some clear); judged = λ _. w },
             ),
           )
+
+          module _ (m : ℕ) (flow′ marks′ : List ℕ) (count : m ≡ missing (netOf s) (planOf s) p) (done : marks′ ≡ overwritten (doneMark (netOf s) (planOf s) p) (eventsOf s) marks) (written : Written s p flow flow′) where
+            pub runs-told : m ≡ 0 → Answered Runs flow′ marks′
+            runs-told none = judged-told Runs flow′ marks′ (runs-is m (missing (netOf s) (planOf s) p) count none) done written
+
+            pub short-told : ¬ (m ≡ 0) → Answered (Short m) flow′ marks′
+            short-told some =
+                judged-told (Short m) flow′ marks′ (short-is m (missing (netOf s) (planOf s) p) count some) done written

@@ -1,16 +1,14 @@
--- The answer of the place judgement and its row of marks. Document 01, "Place judgement".
+-- The answer of the place judgement and its rows at return. Document 01, "Place judgement".
 use Prim.Native.Nat.{ℕ, zero, suc}
-use mathlib.Core.Bool.{cond, _&&_}
 use mathlib.Core.List.{List}
 use mathlib.Core.Path.{_≡_, refl}
-use lib.Dec.{ltb}
-use Rattle.plan.specs.Net.{Net, Plan}
-use Rattle.plan.specs.Prefix.{missing, smallest}
+use Rattle.plan.specs.Prefix.{missing}
 use Rattle.sheet.specs.Table.{eventsOf}
 use Rattle.sheet.specs.Items.{netOf, planOf}
 use Rattle.calls.specs.Call.{rowFault}
 use Rattle.calls.specs.FlowRow.{flowFault}
 use Rattle.calls.specs.Overwritten.{overwritten, unlessFault}
+use Rattle.handing.specs.Handed.{doneMark, Written}
 use Rattle.place_judgement.specs.declared.Judgement.{Judgement}
 use Rattle.place_judgement.specs.declared.Judgement.the-variants.{Fault, Runs, Short}
 
@@ -39,14 +37,15 @@ judgeFault s p flow marks = rowFault (flowFault s p flow) marks (eventsOf s)
 unfoldable pub judgementOf : List ℕ → ℕ → List ℕ → List ℕ → Judgement
 judgementOf s p flow marks = answer (judgeFault s p flow marks) (missing (netOf s) (planOf s) p)
 
--- A mark is 1 for a member of the smallest done set of the greatest lack if something is missing, else 0.
-unfoldable pub doneMark : Net → Plan → ℕ → ℕ → ℕ
-doneMark N P p v = cond (ltb 0 (missing N P p) && smallest N P p v) 1 0
-
 -- the row of marks at return
 unfoldable pub marksAfter : List ℕ → ℕ → List ℕ → List ℕ → List ℕ
 marksAfter s p flow marks =
     unlessFault (judgeFault s p flow marks) (overwritten (doneMark (netOf s) (planOf s) p) (eventsOf s) marks) marks
+
+-- the flow row at return
+pub record Handed (s : List ℕ) (p : ℕ) (flow marks flow′ : List ℕ) : Type 0 where
+  pub fault : ¬ (judgeFault s p flow marks ≡ 0) → flow′ ≡ flow
+  pub judged : judgeFault s p flow marks ≡ 0 → Written s p flow flow′
 
 -- The two parts of the answer, one by one.
 answer-fault : (k m : ℕ) → faultIn (answer k m) ≡ k

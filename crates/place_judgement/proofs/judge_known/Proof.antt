@@ -100,7 +100,7 @@ same-length-2 : tie.Need-same-length-2
 same-length-2 c = search needs
 
 returns : tie.Need-returns
-returns c = search needs
+returns c = (c .before .before .before .before .before .before .before .before .before .before .before .before .before .before .before .before .before .before .before .before .before .settle-place .ensures .count, c .before .before .before .before .hand-back .ensures)
 
 pub judge-known-spec : {M : Type 1} → statement M
 judge-known-spec =

@@ -8,7 +8,7 @@ use Rattle.sheet.specs.Table.{placesOf, transitionsOf, eventsOf, pairsOf}
 use Rattle.sheet.specs.Faults.{faultOf}
 use Rattle.sheet.specs.Faultless.{Faultless, faultless}
 use Rattle.calls.specs.FlowRow.{flowLength}
-use Rattle.place_judgement.proofs.Answers.{sheet-fault, place-fault, flow-fault, marks-fault, judged-told}
+use Rattle.place_judgement.proofs.Answers.{sheet-fault, place-fault, flow-fault, marks-fault, runs-told, short-told}
 use borrow.Author.Needs.{needs}
 use Rattle.place_judgement.proofs.judge_place.Statement.{statement}
 use Rattle.place_judgement.proofs.judge_place.Tie as tie
@@ -84,7 +84,16 @@ same-length-2 : tie.Need-same-length-2
 same-length-2 c = search needs
 
 returns-5 : tie.Need-returns-5
-returns-5 c = let d = c .before .before .before .before .judge-known in judged-told _ _ _ _ (absent (c .before .before .before .before .before .before .before .before .before .before .before .before .before .before .before .before .before)) (place (c .before .before .before .before .before .before .before .before .before .before .before .before .before .before)) (long (c .before .before .before .before .before .before .before .before .before .before)) (omega (arith, counts (c .before .before .before .before .before .before .before .before .before .before .before), c .before .before .before .before .before .before .before .before .before .if4 .left)) _ _ _ (d .ensures .0) (d .ensures .1 .0) (d .ensures .1 .1)
+returns-5 c = let d = c .before .before .before .before .before .judge-known in runs-told _ _ _ _ (absent (c .before .before .before .before .before .before .before .before .before .before .before .before .before .before .before .before .before .before)) (place (c .before .before .before .before .before .before .before .before .before .before .before .before .before .before .before)) (long (c .before .before .before .before .before .before .before .before .before .before .before)) (omega (arith, counts (c .before .before .before .before .before .before .before .before .before .before .before .before), c .before .before .before .before .before .before .before .before .before .before .if4 .left)) _ _ _ (d .ensures .0) (d .ensures .1 .0) (d .ensures .1 .1) (c .if5 .taken)
+
+same-length-3 : tie.Need-same-length-3
+same-length-3 c = search needs
+
+same-length-4 : tie.Need-same-length-4
+same-length-4 c = search needs
+
+returns-6 : tie.Need-returns-6
+returns-6 c = let d = c .before .before .before .before .before .judge-known in short-told _ _ _ _ (absent (c .before .before .before .before .before .before .before .before .before .before .before .before .before .before .before .before .before .before)) (place (c .before .before .before .before .before .before .before .before .before .before .before .before .before .before .before)) (long (c .before .before .before .before .before .before .before .before .before .before .before)) (omega (arith, counts (c .before .before .before .before .before .before .before .before .before .before .before .before), c .before .before .before .before .before .before .before .before .before .before .if4 .left)) _ _ _ (d .ensures .0) (d .ensures .1 .0) (d .ensures .1 .1) (c .if5 .left)
 
 pub judge-place-spec : {M : Type 1} → statement M
 judge-place-spec =
@@ -107,4 +116,7 @@ judge-place-spec =
     judge-known-requires
     same-length
     same-length-2
-    returns-5)
+    returns-5
+    same-length-3
+    same-length-4
+    returns-6)

@@ -1,4 +1,4 @@
--- `place_judgement::done_mark` meets its contract.
+-- `handing::done_mark` meets its contract.
 use Prim.Native.Nat.{ℕ, _<_}
 use mathlib.Core.Bool.{Bool, cond}
 use mathlib.Core.List.{List}
@@ -7,8 +7,8 @@ use borrow.Author.Needs.{needs}
 use borrow.Author.Tests.{lt-ltb}
 use Rattle.marks.specs.Marks.{marked}
 use Rattle.search.specs.Row.{members}
-use Rattle.place_judgement.proofs.done_mark.Statement.{statement}
-use Rattle.place_judgement.proofs.done_mark.Tie as tie
+use Rattle.handing.proofs.done_mark.Statement.{statement}
+use Rattle.handing.proofs.done_mark.Tie as tie
 
 member-is : (row : List ℕ) (v : ℕ) → v < 256 → members row v ≡ marked row 0 v
 unfolding members

@@ -1,5 +1,5 @@
 -- What a settled place hands over, where it runs and where it is short.
-use Prim.Native.Nat.{ℕ, zero, suc, _+_, _-_, _<_, _≤_}
+use Prim.Native.Nat.{ℕ, _+_, _-_, _<_, _≤_}
 use native.Mathlib.Omega.{arith}
 use mathlib.Core.Bool.{Bool, true, false, cond, _&&_}
 use mathlib.Core.List.{List}
@@ -21,9 +21,7 @@ use Rattle.search.specs.Row.{members}
 use Rattle.calls.specs.FlowRow.{flowLength, flowOf}
 use Rattle.calls.specs.Overwritten.{overwritten, filled-is}
 use Rattle.fold.specs.Written.{SharesFrom}
-use Rattle.place_judgement.specs.declared.Judgement.the-variants.{Runs, Short}
-use Rattle.place_judgement.specs.Judgement.{answer, doneMark}
-use Rattle.place_judgement.specs.Handed.{Written}
+use Rattle.handing.specs.Handed.{doneMark, Written}
 
 -- the opening count covers the shares if nothing is missing
 pub covered : (n k o m : ℕ) (r : Rows) → n ≡ k → m ≡ lacking k r - o → m ≡ 0 → sumOf (r .share) n ≤ o
@@ -81,13 +79,3 @@ module _ (s : List ℕ) (p n m : ℕ) (flow flow′ : List ℕ) (e : n ≡ event
         runs = λ none. absurd (omega (arith, none));
         short = λ _. filled-as (λ i. 0) (λ i. 0) (m + n) (flowLength s) flow flow′ (omega (arith, e, d)) (λ i. refl) h;
       }
-
-pub runs-told : (m k : ℕ) → m ≡ k → m ≡ 0 → Runs ≡ answer 0 k
-unfolding answer
-runs-told m zero e none = refl
-runs-told m (suc k) e none = let no : ⊥ = omega arith in absurd no
-
-pub short-told : (m k : ℕ) → m ≡ k → ¬ (m ≡ 0) → Short m ≡ answer 0 k
-unfolding answer
-short-told m zero e some = absurd (some e)
-short-told m (suc k) e some = ap Short e

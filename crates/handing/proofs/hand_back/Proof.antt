@@ -1,4 +1,4 @@
--- `place_judgement::hand_back` meets its contract.
+-- `handing::hand_back` meets its contract.
 use Prim.Native.Nat.{ℕ, _<_}
 use native.Mathlib.Omega.{arith}
 use mathlib.Core.Path.{_≡_, sym, subst, _∙_}
@@ -6,10 +6,10 @@ use Rattle.plan.specs.Prefix.{missing}
 use Rattle.sheet.specs.Items.{netOf, planOf}
 use Rattle.tokenflow.specs.Rows.{rows}
 use Rattle.tokenflow.specs.Flowing.{Flowing}
-use Rattle.place_judgement.proofs.Handing.{covered, runs-marks, short-marks, runs-flow, short-flow, runs-told, short-told}
+use Rattle.handing.proofs.Handing.{covered, runs-marks, short-marks, runs-flow, short-flow}
 use borrow.Author.Needs.{needs}
-use Rattle.place_judgement.proofs.hand_back.Statement.{statement}
-use Rattle.place_judgement.proofs.hand_back.Tie as tie
+use Rattle.handing.proofs.hand_back.Statement.{statement}
+use Rattle.handing.proofs.hand_back.Tie as tie
 
 hand-over-requires : tie.Need-hand-over-requires
 hand-over-requires c κs =
@@ -47,13 +47,8 @@ returns c =
     let s = c .before .before .before .before .before .before .before .before .before .before .before .before .before .before .before .before .before .before in
     let h = s .pre in
     let j = h .1 .1 .1 .1 .0 .1 .1 in
-    let none : missing (netOf (s .args .s .now)) (planOf (s .args .s .now)) (s .args .p .0) ≡ 0 = sym (j .count) ∙ c .before .before .before .before .before .before .before .before .if1 .taken in (
-      runs-told (s .args .m) _ (j .count) (c .before .before .before .before .before .before .before .before .if1 .taken),
-      (
-        runs-marks (s .args .s .now) (s .args .p .0) (s .args .n) (s .args .marks .now) _ (h .1 .0 .2) none (c .before .before .clear-marks .ensures),
-        runs-flow (s .args .s .now) (s .args .p .0) (s .args .n) (s .args .pairs) (s .args .flow .now) _ (h .1 .0 .2) (h .1 .0 .3) (s .args .share .now) none (c .before .before .before .before .before .before .hand-over .ensures .0) (c .before .before .before .before .before .before .hand-over .ensures .1),
-      ),
-    )
+    let none : missing (netOf (s .args .s .now)) (planOf (s .args .s .now)) (s .args .p .0) ≡ 0 = sym (j .count) ∙ c .before .before .before .before .before .before .before .before .if1 .taken in
+    (runs-marks (s .args .s .now) (s .args .p .0) (s .args .n) (s .args .marks .now) _ (h .1 .0 .2) none (c .before .before .clear-marks .ensures), runs-flow (s .args .s .now) (s .args .p .0) (s .args .n) (s .args .pairs) (s .args .flow .now) _ (h .1 .0 .2) (h .1 .0 .3) (s .args .share .now) none (c .before .before .before .before .before .before .hand-over .ensures .0) (c .before .before .before .before .before .before .hand-over .ensures .1))
 
 add-put-words : tie.Need-add-put-words
 add-put-words c = search needs
@@ -75,13 +70,8 @@ returns-2 c =
     let s = c .before .before .before .before .before .before .before .before .before .before .before .before .before .before .before .before .before .before in
     let h = s .pre in
     let j = h .1 .1 .1 .1 .0 .1 .1 in
-    let short : 0 < missing (netOf (s .args .s .now)) (planOf (s .args .s .now)) (s .args .p .0) = omega (arith, j .count, c .before .before .before .before .before .before .before .before .if1 .left) in (
-      short-told (s .args .m) _ (j .count) (c .before .before .before .before .before .before .before .before .if1 .left),
-      (
-        short-marks (s .args .s .now) (s .args .p .0) (s .args .n) (s .args .marks .now) _ (h .1 .0 .2) (s .args .givers .now) short (j .set short) (c .before .before .write-marks .ensures),
-        short-flow (s .args .s .now) (s .args .p .0) (s .args .n) (s .args .pairs) (s .args .flow .now) _ (h .1 .0 .2) (h .1 .0 .3) short (c .before .before .before .before .before .before .put-words .ensures),
-      ),
-    )
+    let short : 0 < missing (netOf (s .args .s .now)) (planOf (s .args .s .now)) (s .args .p .0) = omega (arith, j .count, c .before .before .before .before .before .before .before .before .if1 .left) in
+    (short-marks (s .args .s .now) (s .args .p .0) (s .args .n) (s .args .marks .now) _ (h .1 .0 .2) (s .args .givers .now) short (j .set short) (c .before .before .write-marks .ensures), short-flow (s .args .s .now) (s .args .p .0) (s .args .n) (s .args .pairs) (s .args .flow .now) _ (h .1 .0 .2) (h .1 .0 .3) short (c .before .before .before .before .before .before .put-words .ensures))
 
 pub hand-back-spec : {M : Type 1} → statement M
 hand-back-spec =

@@ -1,4 +1,4 @@
--- `place_judgement::hand_over` meets its contract.
+-- `handing::hand_over` meets its contract.
 use Prim.Native.Nat.{ℕ, _<_, _≤_}
 use native.Mathlib.Nat.{le-of-eq}
 use native.Mathlib.Omega.{arith}
@@ -12,8 +12,8 @@ use Rattle.tokenflow.specs.Rows.{rows, fedBy}
 use Rattle.fold.specs.Feeding.{Foldable, sheet-foldable}
 use Rattle.fold.specs.Written.{numbersOf, SharesFrom, written-valid}
 use borrow.Author.Needs.{needs}
-use Rattle.place_judgement.proofs.hand_over.Statement.{statement}
-use Rattle.place_judgement.proofs.hand_over.Tie as tie
+use Rattle.handing.proofs.hand_over.Statement.{statement}
+use Rattle.handing.proofs.hand_over.Tie as tie
 
 slice-aggregate-index-pairs : tie.Need-slice-aggregate-index-pairs
 slice-aggregate-index-pairs c = search needs

@@ -1,4 +1,4 @@
--- `place_judgement::write_marks` meets its contract.
+-- `handing::write_marks` meets its contract.
 use Prim.Native.Nat.{ℕ, _+_, _-_, _≤_, zero-le}
 use native.Mathlib.Omega.{arith}
 use mathlib.Core.Bool.{cond}
@@ -8,8 +8,8 @@ use lib.ListN.{set}
 use borrow.Author.Needs.{needs}
 use Rattle.finite.specs.Filled.{Filled, filled-none, filled-more}
 use Rattle.search.specs.Row.{members}
-use Rattle.place_judgement.proofs.write_marks.Statement.{statement}
-use Rattle.place_judgement.proofs.write_marks.Tie as tie
+use Rattle.handing.proofs.write_marks.Statement.{statement}
+use Rattle.handing.proofs.write_marks.Tie as tie
 
 abbrev bit : List ℕ → ℕ → ℕ
 bit row v = cond (members row v) 1 0

@@ -1,11 +1,11 @@
--- `place_judgement::clear_marks` meets its contract.
+-- `handing::clear_marks` meets its contract.
 use Prim.Native.Nat.{ℕ, _-_, _≤_, zero-le}
 use native.Mathlib.Omega.{arith}
 use mathlib.Core.Path.{_≡_, subst}
 use borrow.Author.Needs.{needs}
 use Rattle.finite.specs.Filled.{Filled, filled-none, filled-more}
-use Rattle.place_judgement.proofs.clear_marks.Statement.{statement}
-use Rattle.place_judgement.proofs.clear_marks.Tie as tie
+use Rattle.handing.proofs.clear_marks.Statement.{statement}
+use Rattle.handing.proofs.clear_marks.Tie as tie
 
 abbrev Inv-loop : tie.InvT-loop
 Inv-loop marks₀ n v₀ marks v = (v ≤ n) × Filled (λ k. 0) v marks₀ marks

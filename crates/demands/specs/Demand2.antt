@@ -1,0 +1,144 @@
+-- Demand 2: what the answers of the place judgement and the flow check say, for every sheet and every place of it that they take.
+use Prim.Native.Nat.{ℕ, _≤_, _<_}
+use native.Mathlib.Nat.{eq-zero-or-pos}
+use native.Mathlib.Omega.{arith}
+use mathlib.Core.Bool.{Bool, true, false, cond, _&&_}
+use mathlib.Core.List.{List}
+use mathlib.Core.Logic.{⊎-elim, _↔_}
+use mathlib.Core.Path.{_≡_, refl, sym, ap, subst, _∙_}
+use borrow.Author.Tests.{lt-ltb}
+use lib.Dec.{T, eqb, eqb→eq, eqb-refl, ltb, ltb→lt}
+use lib.ListN.{length, getD}
+use mir.Facts.{and-yes, yes-and, yes-ltb}
+use Rattle.finite.specs.Bounded.{same}
+use Rattle.finite.specs.Subset.{Set}
+use Rattle.plan.specs.Prefix.{missing, runsAt, smallest}
+use Rattle.plan.specs.Cut.{Executable}
+use Rattle.plan.specs.Flow.{Flow, valid}
+use Rattle.theory.specs.Smallest.{IsSmallest}
+use Rattle.theory.specs.Theorems.{verdict, smallest-set}
+use Rattle.sheet.specs.Table.{eventsOf}
+use Rattle.sheet.specs.Items.{netOf, planOf}
+use Rattle.sheet.specs.Faults.{faultOf}
+use Rattle.sheet.specs.Faultless.{faultless, sound}
+use Rattle.calls.specs.Call.{placeFault, row-known, place-known}
+use Rattle.calls.specs.FlowRow.{flowFault, flowLength, flowOf}
+use Rattle.calls.specs.Overwritten.{over-first, at-none}
+use Rattle.handing.specs.Handed.{doneMark}
+use Rattle.flowcheck.specs.declared.Checked.{Checked}
+use Rattle.flowcheck.specs.declared.Checked.the-variants.{Valid, Invalid, Fault as Refused}
+use Rattle.flowcheck.specs.Checked.{checkedOf, saysYes, checked-yes}
+use Rattle.place_judgement.specs.declared.Judgement.{Judgement}
+use Rattle.place_judgement.specs.declared.Judgement.the-variants.{Fault, Runs, Short}
+use Rattle.place_judgement.specs.Judgement.{missingIn, answer, judgeFault, judgementOf, judgement-missing, marksAfter, Handed}
+
+-- the events that a row of marks marks, of the first n
+abbrev pub doneIn : ℕ → List ℕ → Set
+doneIn n marks v = ltb v n && eqb (getD marks v 0) 1
+
+-- What demand 2 says of a call of the place judgement.
+pub record Published (s : List ℕ) (p : ℕ) (flow marks : List ℕ) : Type 0 where
+  -- "The verdict is the published one for labelled partial orders": yes exactly if every cut is enabled (001, definition 6; 003,
+  -- definition 3), and exactly if a valid compact tokenflow exists (003, theorems 2 to 4).
+  pub by-cuts : (judgementOf s p flow marks ≡ Runs) ↔ Executable (netOf s) (planOf s) p
+  pub by-flows : (judgementOf s p flow marks ≡ Runs) ↔ ((x : Flow) × T (valid (netOf s) (planOf s) p x))
+  -- "A yes at a place hands over a valid compact tokenflow,
+  pub yes : judgementOf s p flow marks ≡ Runs → (flow′ : List ℕ) → Handed s p flow marks flow′ → T (valid (netOf s) (planOf s) p (flowOf flow′))
+  -- a no the smallest done set at which most tokens lack."
+  pub no : (m : ℕ) → judgementOf s p flow marks ≡ Short m → IsSmallest (netOf s) (planOf s) p (doneIn (eventsOf s) (marksAfter s p flow marks))
+
+-- Demand 2.
+pub record Demand2 : Type 0 where
+  pub judged : (s : List ℕ) (p : ℕ) (flow marks : List ℕ) → judgeFault s p flow marks ≡ 0 → Published s p flow marks
+  -- "A flow drawn up elsewhere is passed exactly if valid."
+  pub passed : (s : List ℕ) (p : ℕ) (row : List ℕ) → flowFault s p row ≡ 0 → (checkedOf s p row ≡ Valid) ↔ T (valid (netOf s) (planOf s) p (flowOf row))
+
+-- ---- the proof
+
+abbrev isShort : Judgement → ℕ
+isShort (Fault k) = 0
+isShort Runs = 0
+isShort (Short m) = 1
+
+yes-is : (c : Checked) → saysYes c ≡ true → c ≡ Valid
+yes-is (Refused k) e = absurd (subst T (sym e) tt)
+yes-is Valid e = refl
+yes-is Invalid e = absurd (subst T (sym e) tt)
+
+one-is : (b : Bool) → T (eqb (cond {A = ℕ} b 1 0) 1) ↔ T b
+one-is true = (λ t. tt, λ t. tt)
+one-is false = (λ t. t, λ t. absurd t)
+
+module _ (s : List ℕ) (p : ℕ) (flow marks : List ℕ) (none : judgeFault s p flow marks ≡ 0) where
+  runs-none : (judgementOf s p flow marks ≡ Runs) ↔ (missing (netOf s) (planOf s) p ≡ 0)
+  unfolding judgementOf answer
+  runs-none = (λ e. sym (judgement-missing s p flow marks none) ∙ ap missingIn e, λ e. simp (none, e))
+
+  runs-at : (judgementOf s p flow marks ≡ Runs) ↔ T (runsAt (netOf s) (planOf s) p)
+  unfolding runsAt
+  runs-at = (
+    λ e. subst (λ (m : ℕ). T (eqb m 0)) (sym (runs-none .0 e)) (eqb-refl 0),
+    λ t. runs-none .1 (eqb→eq (missing (netOf s) (planOf s) p) 0 t),
+  )
+
+  short-some : (m : ℕ) → judgementOf s p flow marks ≡ Short m → 0 < missing (netOf s) (planOf s) p
+  short-some m e =
+      ⊎-elim
+      (λ z. let no : ⊥ = omega (arith, ap isShort (sym e ∙ runs-none .1 z)) in absurd no)
+      (λ l. l)
+      (eq-zero-or-pos (missing (netOf s) (planOf s) p))
+
+  known : (flowFault s p flow ≡ 0) × (eventsOf s ≤ length marks)
+  unfolding judgeFault
+  known = row-known (flowFault s p flow) marks (eventsOf s) none
+
+  taken : faultOf s ≡ 0
+  unfolding flowFault
+  taken = place-known s p (row-known (placeFault s p) flow (flowLength s) (known .0) .0) .0
+
+  module _ (short : 0 < missing (netOf s) (planOf s) p) where
+    smallest-known : IsSmallest (netOf s) (planOf s) p (smallest (netOf s) (planOf s) p)
+    smallest-known = smallest-set (netOf s) (planOf s) p (sound s (faultless s taken)) short
+
+    mark-is : (v : ℕ) → v < eventsOf s → getD (marksAfter s p flow marks) v 0 ≡ cond (smallest (netOf s) (planOf s) p v) 1 0
+    unfolding marksAfter doneMark
+    mark-is v l =
+        ap (λ (row : List ℕ). getD row v 0) (sym (at-none (judgeFault s p flow marks) _ marks none))
+        ∙ over-first (doneMark (netOf s) (planOf s) p) (eventsOf s) marks v l (omega (arith, known .1))
+        ∙ ap (λ (b : Bool). cond {A = ℕ} (b && smallest (netOf s) (planOf s) p v) 1 0) (lt-ltb 0 (missing (netOf s) (planOf s) p) short)
+
+    done-is : (v : ℕ) → smallest (netOf s) (planOf s) p v ≡ doneIn (eventsOf s) (marksAfter s p flow marks) v
+    done-is v =
+        let D : Bool = smallest (netOf s) (planOf s) p v in
+        let mark = getD (marksAfter s p flow marks) v 0 in
+        same
+        D
+        (doneIn (eventsOf s) (marksAfter s p flow marks) v)
+        (λ t. let l = smallest-known .prefixed .events v t in yes-and (ltb v (eventsOf s)) (eqb mark 1) (yes-ltb {a = v} {b = eventsOf s} l) (subst (λ (m : ℕ). T (eqb m 1)) (sym (mark-is v l)) (one-is D .1 t)))
+        (λ t.
+        let h = and-yes (ltb v (eventsOf s)) (eqb mark 1) t in
+        one-is D .0 (subst (λ (m : ℕ). T (eqb m 1)) (mark-is v (ltb→lt v (eventsOf s) (h .0))) (h .1)))
+
+  published : Published s p flow marks
+  published =
+      let v = verdict (netOf s) (planOf s) p (sound s (faultless s taken)) in
+      record {
+        by-cuts = (λ e. v .by-cuts .0 (runs-at .0 e), λ x. runs-at .1 (v .by-cuts .1 x));
+        by-flows = (λ e. v .by-flows .0 (runs-at .0 e), λ x. runs-at .1 (v .by-flows .1 x));
+        yes = λ e flow′ h. h .judged none .runs (runs-none .0 e);
+        no = λ m e.
+            subst
+            (IsSmallest (netOf s) (planOf s) p)
+            (λ i v. done-is (short-some m e) v i)
+            (smallest-known (short-some m e));
+      }
+
+pub demand-2 : Demand2
+demand-2 =
+    record {
+      judged = published;
+      passed = λ s p row none. (
+        λ e. subst T (sym (ap saysYes e) ∙ checked-yes s p row none) tt,
+        λ t. yes-is (checkedOf s p row) (checked-yes s p row none ∙ same (valid (netOf s) (planOf s) p (flowOf row)) true (λ _. tt) (λ _. t)),
+      );
+    }
