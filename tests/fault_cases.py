@@ -3,66 +3,15 @@
 
 usage: fault_cases.py [DIRECTORY]
 
-The faults are worked out here, straight from document 01's table, and share nothing with the code under test: a pair given
-twice is found by counting, a cycle by taking events away that nothing left is before. Each case also names the fault that
-its builder means to show, and the script stops where the two differ.
+The faults are worked out by tests/separate.py, straight from document 01's table, and share nothing with the code under test: a
+pair given twice is found by counting, a cycle by taking events away that nothing left is before. Each case also names the
+fault that its builder means to show, and the script stops where the two differ.
 """
 import os
 import struct
 import sys
 
-LIMITS = (64, 64, 256, 1024)
-
-
-def has_cycle(events, pairs):
-    left, order = set(range(events)), set(pairs)
-    while True:
-        free = left - {b for a, b in order}
-        if not free:
-            return bool(left)
-        left -= free
-        order = {(a, b) for a, b in order if a in left}
-
-
-def item_lengths(places):
-    return (4, 4 * places, 2, 4)
-
-
-def fault(sheet):
-    """The lowest number of the table that applies, 0 for none."""
-    if len(sheet) < 32:
-        return 1
-    words = struct.unpack_from("<8I", sheet)
-    starts, counts = words[0::2], words[1::2]
-    if any(count > limit for count, limit in zip(counts, LIMITS)):
-        return 2
-    places, transitions, events, pairs = counts
-    due = 32
-    for start, count, size in zip(starts, counts, item_lengths(places)):
-        if start != due:
-            return 3
-        due = start + count * size
-    if len(sheet) != due:
-        return 4
-    opening = struct.unpack_from("<%dI" % places, sheet, starts[0])
-    weights = struct.unpack_from("<%dH" % (2 * places * transitions), sheet, starts[1])
-    labels = struct.unpack_from("<%dH" % events, sheet, starts[2])
-    ends = list(struct.iter_unpack("<2H", sheet[starts[3]:]))
-    if any(count > 1000000 for count in opening):
-        return 5
-    if any(weight > 1000 for weight in weights):
-        return 6
-    if any(label >= transitions for label in labels):
-        return 7
-    if any(a >= events or b >= events for a, b in ends):
-        return 8
-    if any(a == b for a, b in ends):
-        return 9
-    if len(set(ends)) < len(ends):
-        return 10
-    if has_cycle(events, ends):
-        return 11
-    return 0
+import separate
 
 
 class Plan:
@@ -74,18 +23,10 @@ class Plan:
         self.first_start, self.tail, self.cut = 32, b"", None
 
     def sheet(self):
-        counts = (len(self.opening), len(self.weights), len(self.events), len(self.pairs))
-        start, table = 32, []
-        for count, size in zip(counts, item_lengths(counts[0])):
-            table += [start, count]
-            start += count * size
-        table[0] = self.first_start
-        body = struct.pack("<8I", *table)
-        body += b"".join(struct.pack("<I", count) for count in self.opening)
-        body += b"".join(struct.pack("<H", weight) for row in self.weights for weight in row)
-        body += b"".join(struct.pack("<H", label) for label in self.events)
-        body += b"".join(struct.pack("<2H", *ends) for ends in self.pairs)
-        return (body + self.tail)[:self.cut]
+        places = len(self.opening)
+        transitions = [(row[:places], row[places:]) for row in self.weights]
+        sheet = separate.Plan(self.opening, transitions, self.events, self.pairs).sheet()
+        return (struct.pack("<I", self.first_start) + sheet[4:] + self.tail)[:self.cut]
 
 
 # a way to bring each fault into a plan, so that any two can be brought in together
@@ -241,7 +182,7 @@ def layouts():
     yield 8, "a pair with no event to name", Plan((), (), (), ((0, 0),)).sheet()
     for entry in range(4):
         words = [32, 0, 32, 0, 32, 0, 32, 0]
-        words[2 * entry + 1] = LIMITS[entry] + 1
+        words[2 * entry + 1] = separate.LIMITS[entry] + 1
         yield 2, "entry %d: one item too many, no body" % entry, table(*words)
         words[2 * entry + 1] = 4294967295
         yield 2, "entry %d: 4,294,967,295 items" % entry, table(*words)
@@ -312,7 +253,7 @@ def scattered():
 def cases():
     for group in (small_examples, limits, two_faults, truncations, layouts, names, repeats, cycles, scattered):
         for meant, name, sheet in group():
-            number = fault(sheet)
+            number = separate.fault(sheet)
             if meant not in (None, number):
                 sys.exit("%s: %d is meant, and the table says %d" % (name, meant, number))
             yield number, name.encode(), sheet

@@ -1,0 +1,108 @@
+#!/usr/bin/env python3
+"""Writes crates/judgements_test/stdin and stdout: document 01's examples and the faults of a call, with what must be printed.
+
+usage: judgement_cases.py [DIRECTORY]
+
+What is expected comes from document 01's table and its rules, not from any judge. Where a plan runs at the place, the flow row isn't
+printed, since the choice among valid flows is free; that the flow check takes it is.
+"""
+import os
+import struct
+import sys
+
+import plans
+
+UNTOUCHED, UNTOUCHED_MARK = 2 ** 32 - 1, 255  # what the program puts into the rows that it lends
+
+
+def case(sheet, place, counts, flow, marks, damages=(), shown=True):
+    """A case as crates/judgements_test reads it: lengths of the rows to lend, damages of the flow row as (index, 1 or -1)."""
+    head = struct.pack("<5H2B", len(sheet), place, counts, flow, marks, len(damages), shown)
+    return head + sheet + b"".join(struct.pack("<HB", at, way > 0) for at, way in damages)
+
+
+def line(*words):
+    return " ".join(map(str, words)) + "\n"
+
+
+def lent(needed, length, untouched=UNTOUCHED):
+    return list(needed) + [untouched] * (length - len(needed))
+
+
+def judged(plan, place, counts, done):
+    """A case with two entries more in each row than are needed, and its lines: the missing counts of all places, and the done set, None
+    where the plan runs at the place."""
+    needed = len(plan.pairs) + plan.events
+    given = case(plan.sheet(), place, len(counts) + 2, needed + 2, plan.events + 2, shown=done is not None)
+    short = [p for p, count in enumerate(counts) if count > 0]
+    verdict = ["short", short[0], counts[short[0]]] if short else ["runs"]
+    marks = lent([1 if done and v in done else 0 for v in range(plan.events)], plan.events + 2, UNTOUCHED_MARK)
+    if done is None:
+        answer = ["runs", "marks", *marks]
+    else:
+        answer = ["short", counts[place], "marks", *marks, "flow", *lent([0] * needed, needed + 2)]
+    lines = line("plan", sum(counts), len(short), *verdict, "counts", *lent(counts, len(counts) + 2))
+    lines += line("place", *answer) + line("check", "valid" if done is None else "invalid")
+    return given, lines
+
+
+def examples():
+    for opening, events, pairs, missing, done in plans.TABLE:
+        yield judged(plans.one_place(opening, events, pairs), 0, [missing], done)
+    for place, done in ((0, []), (1, None), (2, None)):
+        yield judged(plans.LISTED, place, [1, 0, 0], done)
+
+
+def refused_plan(number, counts):
+    return line("plan", "fault", number, "counts", *lent((), counts))
+
+
+def refused_place(number, flow, marks):
+    return line("place", "fault", number, "marks", *lent((), marks, UNTOUCHED_MARK), "flow", *lent((), flow))
+
+
+def refused(number, sheet, place, counts, flow, marks):
+    """A case whose three calls are all refused with this number."""
+    lines = refused_plan(number, counts) + refused_place(number, flow, marks) + line("check", "fault", number)
+    return case(sheet, place, counts, flow, marks), lines
+
+
+def listed(counts):
+    """The plan judgement of the sheet of 78 bytes, which has 3 places, 1 pair and 3 events."""
+    return line("plan", 1, 1, "short", 0, 1, "counts", *lent((1, 0, 0), counts))
+
+
+def faults_of_a_call():
+    sheet = plans.LISTED.sheet()
+    for place, counts, flow, marks in ((3, 3, 4, 3), (65535, 5, 3, 2)):
+        yield case(sheet, place, counts, flow, marks), listed(counts) + refused_place(12, flow, marks) + line("check", "fault", 12)
+    yield refused(13, sheet, 0, 2, 3, 3)
+    yield refused(13, sheet, 2, 0, 0, 0)
+    # too few marks alone: the flow row of greatest numbers is no flow
+    yield case(sheet, 1, 3, 4, 2), listed(3) + refused_place(13, 4, 2) + line("check", "invalid")
+    # just enough of everything
+    place_line = line("place", "short", 1, "marks", 0, 0, 0, "flow", 0, 0, 0, 0)
+    yield case(sheet, 0, 3, 4, 3), listed(3) + place_line + line("check", "invalid")
+
+
+def faulty_sheets():
+    """A sheet's own fault comes before a wrong place and rows that are too short."""
+    sheet, net = plans.LISTED.sheet(), (plans.LISTED.opening, plans.LISTED.transitions, plans.LISTED.labels)
+    twice, cycle = plans.Plan(*net, ((0, 1), (0, 1))).sheet(), plans.Plan(*net, ((0, 1), (1, 0))).sheet()
+    for number, faulty in ((1, b""), (1, sheet[:31]), (4, sheet + b"\0"), (4, sheet[:-1]), (10, twice), (11, cycle)):
+        yield refused(number, faulty, 0, 4, 6, 5)
+        yield refused(number, faulty, 3, 0, 0, 0)
+
+
+def main():
+    here = os.path.dirname(os.path.abspath(__file__))
+    directory = sys.argv[1] if len(sys.argv) > 1 else os.path.join(here, "..", "crates", "judgements_test")
+    with open(os.path.join(directory, "stdin"), "wb") as given, open(os.path.join(directory, "stdout"), "w") as expected:
+        for group in (examples, faults_of_a_call, faulty_sheets):
+            for cases, lines in group():
+                given.write(cases)
+                expected.write(lines)
+
+
+if __name__ == "__main__":
+    main()

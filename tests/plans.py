@@ -1,0 +1,147 @@
+"""Plans for the tests: document 01's examples with their expected answers, plans at the limits, and random ones."""
+from separate import Plan
+
+
+def one_place(opening, events, pairs):
+    """A plan at one place, whose events are given as (takes, gives)."""
+    kinds = sorted(set(events))
+    return Plan((opening,), [((takes,), (gives,)) for takes, gives in kinds], [kinds.index(event) for event in events], pairs)
+
+
+# Document 01's table of one desk's examples: opening count, events as takes and gives, order, missing count, done set.
+TABLE = (
+    (0, (), (), 0, None),
+    (1, ((1, 0), (1, 0)), (), 1, []),
+    (2, ((1, 0), (1, 0)), (), 0, None),
+    (1, ((1, 1), (1, 1)), (), 1, []),
+    (1, ((1, 1), (1, 1)), ((0, 1),), 0, None),
+    (0, ((0, 1), (0, 0), (1, 0)), ((0, 1), (1, 2)), 0, None),
+    (1, ((0, 1), (1, 0), (1, 0)), ((0, 1),), 0, None),
+    (0, ((0, 0), (1, 0), (0, 0)), ((0, 1),), 1, [0]),
+    (3, ((2, 2), (2, 2)), (), 1, []),
+    (3, ((2, 2), (2, 2)), ((0, 1),), 0, None),
+    (0, ((1, 1),), (), 1, []),
+    (0, ((0, 1), (1, 0)), (), 1, []),
+    (0, ((1000, 0),) * 256, (), 256000, []),
+)
+
+# The sheet of 78 bytes that document 01 lists, and its listing.
+LISTED = Plan((1, 0, 0), (((1, 0, 0), (0, 1, 0)), ((0, 1, 0), (0, 0, 1))), (0, 0, 1), ((0, 2),))
+LISTING = """\
+plan events 3 pairs 1 free 2
+place 0 open 1 end -1 missing 1
+place 1 open 0 end 1 missing 0
+place 2 open 0 end 1 missing 0
+short 1 total 1
+first 0 done none
+"""
+
+
+def close_pairs(count):
+    """Different pairs (a, b) of 256 events with a below b, the closest first."""
+    pairs = [(a, a + gap) for gap in range(1, 256) for a in range(256 - gap)]
+    return pairs[:count]
+
+
+def with_places(count):
+    return Plan([1] * count, [([1] * count, [0] * count)], [0], ())
+
+
+def with_transitions(count):
+    return Plan((0,), [((0,), (t % 1000,)) for t in range(count)], [count - 1], ())
+
+
+def with_events(count):
+    return Plan((0,), [((1,), (0,))], [0] * count, ())
+
+
+def with_pairs(count):
+    return Plan((0,), [((1,), (1,))], [0] * 256, close_pairs(count))
+
+
+# how a count of items is reached and passed
+COUNTED = ((64, with_places), (64, with_transitions), (256, with_events), (1024, with_pairs))
+
+
+def at_the_limits():
+    """Plans that reach one limit, and all of them at once."""
+    for most, make in COUNTED:
+        yield "%s %d" % (make.__name__, most), make(most)
+    yield "an opening count of 1,000,000", one_place(1000000, ((1000, 0),) * 256, ())
+    yield "weights of 1,000", one_place(999, ((1000, 1000), (1000, 1000)), ((0, 1),))
+    full = [([1000] * 64, [1000] * 64)] * 64
+    yield "every limit", Plan([1000000] * 64, full, [v % 64 for v in range(256)], close_pairs(1024))
+
+
+def past_the_limits():
+    """One more of each, with the fault that it draws."""
+    for most, make in COUNTED:
+        yield 2, "%s %d" % (make.__name__, most + 1), make(most + 1)
+    yield 5, "an opening count of 1,000,001", one_place(1000001, ((1, 0),), ())
+    yield 6, "a weight of 1,001 taken", one_place(0, ((1001, 0),), ())
+    yield 6, "a weight of 1,001 given", one_place(0, ((0, 1001),), ())
+
+
+# orders of n events whose pairs go from lower to higher numbers
+
+
+def chain(draw, n):
+    return [(v, v + 1) for v in range(n - 1)]
+
+
+def antichain(draw, n):
+    return []
+
+
+def n_shape(draw, n):
+    """Copies of the order of four events that is no series or parallel composition: 0 before 2, 0 before 3, 1 before 3."""
+    return [(v + a, v + b) for v in range(0, n - 3, 4) for a, b in ((0, 2), (0, 3), (1, 3))]
+
+
+def layers(draw, n):
+    layer = sorted(draw.randrange(3) for _ in range(n))
+    return [(a, b) for b in range(n) for a in range(b) if layer[a] + 1 == layer[b]]
+
+
+def chains(draw, n):
+    width = draw.randrange(1, 4)
+    return [(v, v + width) for v in range(n - width)]
+
+
+def tree(draw, n):
+    return [(draw.randrange(v), v) for v in range(1, n)]
+
+
+def scattered(draw, n):
+    part = draw.random()
+    return [(a, b) for b in range(n) for a in range(b) if draw.random() < part]
+
+
+SHAPES = (chain, antichain, n_shape, layers, chains, tree, scattered)
+
+
+def implied(n, pairs):
+    """Pairs that the others imply."""
+    before = Plan((), [((), ())], [0] * n, pairs).is_before
+    return [(a, b) for a in range(n) for b in range(n) if before(a, b) and (a, b) not in pairs]
+
+
+def random_pairs(draw, n):
+    pairs = draw.choice(SHAPES)(draw, n)
+    more = implied(n, pairs)
+    pairs += draw.sample(more, draw.randrange(len(more) + 1) if draw.random() < 0.5 else 0)
+    names = draw.sample(range(n), n)
+    pairs = [(names[a], names[b]) for a, b in pairs]
+    draw.shuffle(pairs)
+    return pairs
+
+
+def random_plan(draw, most_events=8, most_places=4):
+    """A plan of a few events. The opening counts lie around the least ones with which it runs, to either side."""
+    n, places, kinds = draw.randrange(most_events + 1), draw.randrange(1, most_places + 1), draw.randrange(1, 6)
+    weight = draw.choice((lambda: draw.randrange(2), lambda: draw.randrange(4), lambda: draw.choice((0, 0, 1, 3, 999, 1000))))
+    transitions = [([weight() for _ in range(places)], [weight() for _ in range(places)]) for _ in range(kinds)]
+    plan = Plan([0] * places, transitions, [draw.randrange(kinds) for _ in range(n)], random_pairs(draw, n))
+    for p in range(places):
+        plan.opening[p] = max(0, plan.by_greatest_flow(p)[0] + draw.choice((-3, -2, -1, -1, 0, 0, 0, 1, 2)))
+    return plan

@@ -1,0 +1,283 @@
+"""A judge of sheets that shares nothing with the code under test: document 01's definitions, read off literally.
+
+It walks all done sets of a plan, so it is for plans of a few events. `by_greatest_flow` is a second way to a place's missing
+count and smallest done set, for plans of any size; tests/random_plans holds the two against each other.
+"""
+import struct
+from collections import deque
+from functools import cached_property
+
+LIMITS = (64, 64, 256, 1024)  # places, transitions, events, pairs
+MOST_BYTES = 21280
+
+
+def item_lengths(places):
+    return (4, 4 * places, 2, 4)
+
+
+def has_cycle(events, pairs):
+    """Takes events away that nothing left is before; what can't be taken away is on a cycle or after one."""
+    left, order = set(range(events)), set(pairs)
+    while True:
+        free = left - {b for a, b in order}
+        if not free:
+            return bool(left)
+        left -= free
+        order = {(a, b) for a, b in order if a in left}
+
+
+def fault(sheet):
+    """The lowest number of the table of faults that applies, 0 for none."""
+    if len(sheet) < 32:
+        return 1
+    words = struct.unpack_from("<8I", sheet)
+    starts, counts = words[0::2], words[1::2]
+    if any(count > limit for count, limit in zip(counts, LIMITS)):
+        return 2
+    places, transitions, events, pairs = counts
+    due = 32
+    for start, count, size in zip(starts, counts, item_lengths(places)):
+        if start != due:
+            return 3
+        due = start + count * size
+    if len(sheet) != due:
+        return 4
+    opening = struct.unpack_from("<%dI" % places, sheet, starts[0])
+    weights = struct.unpack_from("<%dH" % (2 * places * transitions), sheet, starts[1])
+    labels = struct.unpack_from("<%dH" % events, sheet, starts[2])
+    ends = list(struct.iter_unpack("<2H", sheet[starts[3]:]))
+    if any(count > 1000000 for count in opening):
+        return 5
+    if any(weight > 1000 for weight in weights):
+        return 6
+    if any(label >= transitions for label in labels):
+        return 7
+    if any(a >= events or b >= events for a, b in ends):
+        return 8
+    if any(a == b for a, b in ends):
+        return 9
+    if len(set(ends)) < len(ends):
+        return 10
+    if has_cycle(events, ends):
+        return 11
+    return 0
+
+
+def read(sheet):
+    """The plan of a faultless sheet."""
+    places, transitions, events, pairs = struct.unpack_from("<8I", sheet)[1::2]
+    numbers = struct.unpack_from("<%dI%dH" % (places, 2 * places * transitions + events + 2 * pairs), sheet, 32)
+    opening, rest = numbers[:places], numbers[places:]
+    rows = [rest[2 * places * t:2 * places * (t + 1)] for t in range(transitions)]
+    rest = rest[2 * places * transitions:]
+    ends = rest[events:]
+    return Plan(opening, [(row[:places], row[places:]) for row in rows], rest[:events], list(zip(ends[0::2], ends[1::2])))
+
+
+class Plan:
+    """A net and a plan. Transitions are (takes, gives), each a number for every place. Sets of events are bits of a number."""
+
+    def __init__(self, opening, transitions, labels, pairs):
+        self.opening, self.transitions = list(opening), [(list(takes), list(gives)) for takes, gives in transitions]
+        self.labels, self.pairs = list(labels), list(pairs)
+        self.places, self.events = len(self.opening), len(self.labels)
+
+    def sheet(self):
+        counts = (self.places, len(self.transitions), self.events, len(self.pairs))
+        start, table = 32, []
+        for count, size in zip(counts, item_lengths(self.places)):
+            table += [start, count]
+            start += count * size
+        weights = [weight for takes, gives in self.transitions for weight in takes + gives]
+        ends = [event for pair in self.pairs for event in pair]
+        halves = weights + self.labels + ends
+        return struct.pack("<8I%dI%dH" % (self.places, len(halves)), *table, *self.opening, *halves)
+
+    def takes(self, event, place):
+        return self.transitions[self.labels[event]][0][place]
+
+    def gives(self, event, place):
+        return self.transitions[self.labels[event]][1][place]
+
+    @cached_property
+    def predecessors(self):
+        """For each event, the set of all events before it: from each one, whatever can be reached by pairs."""
+        after = {}
+        for a, b in self.pairs:
+            after.setdefault(a, []).append(b)
+        sets = [0] * self.events
+        for start in range(self.events):
+            reached, found = set(), [start]
+            while found:
+                for b in after.get(found.pop(), ()):
+                    if b not in reached:
+                        reached.add(b)
+                        found.append(b)
+            for b in reached:
+                sets[b] |= 1 << start
+        return sets
+
+    def is_before(self, a, b):
+        return self.predecessors[b] >> a & 1 == 1
+
+    def is_skeleton(self, pair):
+        a, b = pair
+        return not any(self.is_before(a, v) and self.is_before(v, b) for v in range(self.events))
+
+    @property
+    def free(self):
+        given = {frozenset(pair) for pair in self.pairs}
+        return self.events * (self.events - 1) // 2 - len(given)
+
+    # all done sets
+
+    @cached_property
+    def done_sets(self):
+        """Each done set with its members and its front, as lists."""
+        found = []
+        for done in range(1 << self.events):
+            inside = [v for v in range(self.events) if done >> v & 1]
+            if all(self.predecessors[v] & ~done == 0 for v in inside):
+                front = [v for v in range(self.events) if not done >> v & 1 and self.predecessors[v] & ~done == 0]
+                found.append((done, inside, front))
+        return found
+
+    def tokens(self, place, inside):
+        return self.opening[place] + sum(self.gives(v, place) - self.takes(v, place) for v in inside)
+
+    def lacks(self, place):
+        return {done: sum(self.takes(v, place) for v in front) - self.tokens(place, inside) for done, inside, front in self.done_sets}
+
+    def by_done_sets(self, place):
+        """The missing count and, where it is above 0, the done set contained in all others of that lack; else None."""
+        lacks = self.lacks(place)
+        most = max(lacks.values())
+        if most <= 0:
+            return 0, None
+        greatest = [done for done, lack in lacks.items() if lack == most]
+        smallest = greatest[0]
+        for done in greatest:
+            smallest &= done
+        if smallest not in greatest:
+            raise AssertionError("no done set of the greatest lack is contained in all the others")
+        return most, [v for v in range(self.events) if smallest >> v & 1]
+
+    def end(self, place):
+        return self.tokens(place, range(self.events))
+
+    # plans of any size
+
+    def by_greatest_flow(self, place):
+        """The same by a flow network. To choose sets D within U such that what is before U is in D, with the greatest takes of U
+        less gives of D, is to find a least cut: source to top(v) with what v takes, top(v) to bottom(u) for u before v and
+        bottom(v) to top(v) without limit, bottom(v) to sink with what v gives."""
+        network, source, sink = Network(2 * self.events + 2), 2 * self.events, 2 * self.events + 1
+        total = 0
+        for v in range(self.events):
+            total += self.takes(v, place)
+            network.add(source, v, self.takes(v, place))
+            network.add(self.events + v, sink, self.gives(v, place))
+            network.add(self.events + v, v, None)
+        for a, b in self.pairs:
+            network.add(b, self.events + a, None)
+        most = total - network.greatest_flow(source, sink) - self.opening[place]
+        if most <= 0:
+            return 0, None
+        reached = network.levels(source)
+        return most, [v for v in range(self.events) if reached[self.events + v] is not None]
+
+    def judge(self, place):
+        return self.by_done_sets(place) if self.events <= 12 else self.by_greatest_flow(place)
+
+    # compact tokenflow
+
+    def flow_length(self):
+        return len(self.pairs) + self.events
+
+    def is_valid(self, place, row):
+        """Rules 1 to 4."""
+        flow, shares = row[:len(self.pairs)], row[len(self.pairs):self.flow_length()]
+        arrives = list(shares)
+        leaves = [0] * self.events
+        for (a, b), amount in zip(self.pairs, flow):
+            leaves[a] += amount
+            arrives[b] += amount
+        rule1 = all(arrives[v] >= self.takes(v, place) for v in range(self.events))
+        rule2 = all(leaves[v] <= arrives[v] - self.takes(v, place) + self.gives(v, place) for v in range(self.events))
+        rule3 = sum(shares) <= self.opening[place]
+        rule4 = all(amount == 0 or self.is_skeleton(pair) for pair, amount in zip(self.pairs, flow))
+        return rule1 and rule2 and rule3 and rule4
+
+
+class Network:
+    """Dinic's greatest flow. Arc i and arc i ^ 1 are each other's reverse; None is no limit."""
+
+    def __init__(self, nodes):
+        self.arcs, self.head, self.left = [[] for _ in range(nodes)], [], []
+
+    def add(self, a, b, capacity):
+        for tail, head, left in ((a, b, float("inf") if capacity is None else capacity), (b, a, 0)):
+            self.arcs[tail].append(len(self.head))
+            self.head.append(head)
+            self.left.append(left)
+
+    def levels(self, source):
+        level, queue = [None] * len(self.arcs), deque([source])
+        level[source] = 0
+        while queue:
+            v = queue.popleft()
+            for i in self.arcs[v]:
+                if self.left[i] > 0 and level[self.head[i]] is None:
+                    level[self.head[i]] = level[v] + 1
+                    queue.append(self.head[i])
+        return level
+
+    def path(self, source, sink, level, untried):
+        """The arcs of one way from level to level; dead ends are never tried again."""
+        arcs, v = [], source
+        while v != sink:
+            while untried[v] and not (self.left[untried[v][-1]] > 0 and level[self.head[untried[v][-1]]] == level[v] + 1):
+                untried[v].pop()
+            if untried[v]:
+                arcs.append(untried[v][-1])
+                v = self.head[arcs[-1]]
+            elif arcs:
+                v = self.head[arcs.pop() ^ 1]
+                untried[v].pop()
+            else:
+                return None
+        return arcs
+
+    def greatest_flow(self, source, sink):
+        total, level = 0, self.levels(source)
+        while level[sink] is not None:
+            untried = [list(arcs) for arcs in self.arcs]
+            arcs = self.path(source, sink, level, untried)
+            while arcs is not None:
+                amount = min(self.left[i] for i in arcs)
+                for i in arcs:
+                    self.left[i] -= amount
+                    self.left[i ^ 1] += amount
+                total += amount
+                arcs = self.path(source, sink, level, untried)
+            level = self.levels(source)
+        return total
+
+
+def listing(sheet):
+    """What the listing program has to print for these bytes."""
+    number = fault(sheet)
+    if number:
+        return "refused %d\n" % number
+    plan = read(sheet)
+    answers = [plan.judge(p) for p in range(plan.places)]
+    lines = ["plan events %d pairs %d free %d" % (plan.events, len(plan.pairs), plan.free)]
+    for p, (missing, _) in enumerate(answers):
+        lines.append("place %d open %d end %d missing %d" % (p, plan.opening[p], plan.end(p), missing))
+    short = [p for p, (missing, _) in enumerate(answers) if missing > 0]
+    lines.append("short %d total %d" % (len(short), sum(missing for missing, _ in answers)))
+    if short:
+        lines.append("first %d done %s" % (short[0], " ".join(map(str, answers[short[0]][1])) or "none"))
+    else:
+        lines.append("runs")
+    return "".join(line + "\n" for line in lines)
