@@ -1,12 +1,17 @@
 // The place judgement: one place of a sheet's plan settled over all orders, with what shows it handed over in the lent rows.
-ghost use Prim.Native.Nat.{_+_, _<_, _≤_};
+ghost use Prim.Native.Nat.{ℕ, _+_, _<_, _≤_};
+ghost use mathlib.Core.List.{List};
 ghost use mathlib.Core.Path.{_≡_};
 ghost use lib.ListN.{length};
+ghost use Rattle.marks.specs.Marks.{HasRow};
 ghost use Rattle.plan.specs.Prefix.{missing};
 ghost use Rattle.sheet.specs.Table.{placesOf, transitionsOf, eventsOf, pairsOf};
 ghost use Rattle.sheet.specs.Items.{netOf, planOf};
 ghost use Rattle.sheet.specs.Faultless.{Faultless};
+ghost use Rattle.closure.specs.PlanRows.{Predecessors};
 ghost use Rattle.order.specs.Rows.{OrderRows};
+ghost use Rattle.tokenflow.specs.Rows.{rows};
+ghost use Rattle.place.specs.Settled.{Judged};
 ghost use Rattle.calls.specs.Overwritten.{overwritten};
 ghost use Rattle.handing.specs.Handed.{doneMark, Written};
 ghost use Rattle.place_judgement.specs.Judgement.{Handed, judgementOf, marksAfter};
@@ -21,6 +26,55 @@ pub enum Judgement {
     Fault(u32),
     Runs,
     Short(u32),
+}
+
+// Settles the place of a sheet without fault, with the working rows for it. Returns the missing count; the lent rows hold what shows it.
+fn settle_alone(
+    s: &[u8],
+    places: usize,
+    transitions: usize,
+    n: usize,
+    p: Place,
+    pred: &[u32],
+    amount: &mut [u32],
+    fed: &mut [u32],
+    share: &mut [u32],
+    givers: &mut [u32],
+) -> u32
+    requires { ⌜ Faultless (now s) ⌝ }
+    requires { ⌜ (places ≡ placesOf (now s)) × (transitions ≡ transitionsOf (now s)) × (n ≡ eventsOf (now s)) ⌝ }
+    requires { ⌜ p .0 < places ⌝ }
+    requires { ⌜ (length (now pred) ≡ 2048) × Predecessors (planOf (now s)) (now pred) ⌝ }
+    requires { ⌜ (65536 ≤ length (now amount)) × (2048 ≤ length (now fed)) × (256 ≤ length (now share)) × HasRow (now givers) 0 ⌝ }
+    ensures { λ r. ⌜ ((free : List ℕ) × Judged (netOf (now (s .entry))) (planOf (now (s .entry))) (p .0) (now (pred .entry)) (rows (now (amount .exit)) (now (fed .exit)) free (now (share .exit))) (now (givers .exit)) r) ⌝ }
+{
+    let mut order = [0usize; 256];
+    event_order(pred, n, &mut order);
+    let mut free = [0u32; 256];
+    let mut spare = [0u32; 8];
+    let mut takers = [0u32; 8];
+    let mut queue = [0usize; 256];
+    let mut origin = [0usize; 256];
+    let mut via = [0usize; 256];
+    settle_place(
+        s,
+        places,
+        transitions,
+        n,
+        p,
+        pred,
+        &order,
+        amount,
+        fed,
+        &mut free,
+        share,
+        &mut spare,
+        &mut takers,
+        givers,
+        &mut queue,
+        &mut origin,
+        &mut via,
+    )
 }
 
 // The missing count of a place of a sheet without fault, in rows that are long enough. The order of the plan is handed in, so that it is
@@ -46,36 +100,21 @@ fn judge_known(
     ensures { λ r. ⌜ now (marks .exit) ≡ overwritten (doneMark (netOf (now (s .entry))) (planOf (now (s .entry))) (p .0)) (eventsOf (now (s .entry))) (now (marks .entry)) ⌝ }
     ensures { λ r. ⌜ Written (now (s .entry)) (p .0) (now (flow .entry)) (now (flow .exit)) ⌝ }
 {
-    let mut order = [0usize; 256];
-    event_order(pred, n, &mut order);
     let mut amount = [0u32; 65536];
     let mut fed = [0u32; 2048];
-    let mut free = [0u32; 256];
     let mut share = [0u32; 256];
-    let mut spare = [0u32; 8];
-    let mut takers = [0u32; 8];
     let mut givers = [0u32; 8];
-    let mut queue = [0usize; 256];
-    let mut origin = [0usize; 256];
-    let mut via = [0usize; 256];
-    let m = settle_place(
+    let m = settle_alone(
         s,
         places,
         transitions,
         n,
         p,
         pred,
-        &order,
         &mut amount,
         &mut fed,
-        &mut free,
         &mut share,
-        &mut spare,
-        &mut takers,
         &mut givers,
-        &mut queue,
-        &mut origin,
-        &mut via,
     );
     hand_back(
         s,
