@@ -6,7 +6,16 @@ ghost use lib.ListN.{length};
 ghost use Rattle.sheet.specs.Table.{start, count};
 ghost use Rattle.sheet.specs.Faults.{tooShort, overLimit, misplaced, wrongEnd, layoutFaults, firstFault};
 ghost use Rattle.sheet.specs.Laid.{Limited};
+ghost use Rattle.layout.specs.Counts.{CountsOf};
 use numbers::get32;
+
+// The four item counts of a sheet.
+pub struct Counts {
+    pub places: usize,
+    pub transitions: usize,
+    pub events: usize,
+    pub pairs: usize,
+}
 
 // The start of entry e's body.
 pub fn entry_start(s: &[u8], e: usize) -> usize
@@ -22,6 +31,23 @@ pub fn entry_count(s: &[u8], e: usize) -> usize
     ensures { λ r. ⌜ (r ≡ count (now (s .entry)) e) × (r < 4294967296) ⌝ }
 {
     get32(s, 8 * e + 4) as usize
+}
+
+// The item counts, read once, so that they can be handed on together.
+pub fn counts_of(s: &[u8]) -> Counts
+    requires { ⌜ 32 ≤ length (now s) ⌝ }
+    ensures { λ r. ⌜ CountsOf (now (s .entry)) r ⌝ }
+{
+    let places = entry_count(s, 0);
+    let transitions = entry_count(s, 1);
+    let events = entry_count(s, 2);
+    let pairs = entry_count(s, 3);
+    Counts {
+        places,
+        transitions,
+        events,
+        pairs,
+    }
 }
 
 // 1: fewer than 32 bytes.

@@ -1,5 +1,6 @@
 // Settles a place: searches and moves tokens by turns, until no giver that a taker could draw on has tokens free.
-ghost use Prim.Native.Nat.{_<_, _≤_};
+ghost use Prim.Native.Nat.{ℕ, _<_, _≤_};
+ghost use mathlib.Core.List.{List};
 ghost use lib.ListN.{length};
 ghost use Rattle.marks.specs.Marks.{HasRow};
 ghost use Rattle.marks.specs.Search.{Tells};
@@ -90,6 +91,15 @@ fn advance(
     true
 }
 
+// Forgets by way of which place each giver was met.
+fn forget(via: &mut [usize])
+    requires { ⌜ 256 ≤ length (now via) ⌝ }
+{
+    for u in 0..256usize {
+        via[u] = 256;
+    }
+}
+
 // One search, and the moves that it leads to. Returns whether less is lacking now.
 fn round(
     pred: &[u32],
@@ -110,6 +120,7 @@ fn round(
     ensures { λ r. ⌜ Moved n (now (pred .entry)) (rows (now (amount .entry)) (now (fed .entry)) (now (free .entry)) (now (share .entry))) (rows (now (amount .exit)) (now (fed .exit)) (now (free .exit)) (now (share .exit))) ⌝ }
     ensures { λ r. ⌜ Rounded n (now (pred .entry)) (rows (now (amount .entry)) (now (fed .entry)) (now (free .entry)) (now (share .entry))) (rows (now (amount .exit)) (now (fed .exit)) (now (free .exit)) (now (share .exit))) (now (takers .exit)) (now (givers .exit)) r ⌝ }
 {
+    forget(via);
     let tail = search(pred, fed, share, n, takers, givers, queue, origin, via);
     advance(
         pred,
@@ -133,19 +144,19 @@ pub fn settle(
     fed: &mut [u32],
     free: &mut [u32],
     share: &mut [u32],
-    takers: &mut [u32],
     givers: &mut [u32],
-    queue: &mut [usize],
-    origin: &mut [usize],
-    via: &mut [usize],
     n: usize,
 )
     requires { ⌜ Flowing n (now pred) (rows (now amount) (now fed) (now free) (now share)) ⌝ }
     requires { ⌜ Order n (now pred) ⌝ }
-    requires { ⌜ Room (now takers) (now givers) (now queue) (now origin) (now via) ⌝ }
+    requires { ⌜ HasRow (now givers) 0 ⌝ }
     ensures { λ _. ⌜ Moved n (now (pred .entry)) (rows (now (amount .entry)) (now (fed .entry)) (now (free .entry)) (now (share .entry))) (rows (now (amount .exit)) (now (fed .exit)) (now (free .exit)) (now (share .exit))) ⌝ }
-    ensures { λ _. ⌜ Finished n (now (pred .entry)) (rows (now (amount .exit)) (now (fed .exit)) (now (free .exit)) (now (share .exit))) (now (takers .exit)) (now (givers .exit)) ⌝ }
+    ensures { λ _. ⌜ ((takers : List ℕ) × Finished n (now (pred .entry)) (rows (now (amount .exit)) (now (fed .exit)) (now (free .exit)) (now (share .exit))) takers (now (givers .exit))) ⌝ }
 {
+    let mut takers = [0u32; 8];
+    let mut queue = [0usize; 256];
+    let mut origin = [256usize; 256];
+    let mut via = [0usize; 256];
     loop {
         if !round(
             pred,
@@ -153,11 +164,11 @@ pub fn settle(
             fed,
             free,
             share,
-            takers,
+            &mut takers,
             givers,
-            queue,
-            origin,
-            via,
+            &mut queue,
+            &mut origin,
+            &mut via,
             n,
         ) {
             return;
