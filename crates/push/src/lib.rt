@@ -149,7 +149,7 @@ fn pull_all(
     }
 }
 
-// Pushes tokens from the level above `lower` to it. Returns the first place of that level in the queue.
+// Pushes tokens from the level above `lower` to it. Returns the first place of the level above in the queue.
 fn push_level(
     pred: &[u32],
     queue: &[usize],
@@ -239,7 +239,8 @@ fn push_down(
     draw_lowest(pred, queue, sets, amount, fed, free, share, end, n);
 }
 
-// Pushes what givers have free down the levels of a search, and draws it for the takers that lack tokens.
+// Pushes what givers have free down the levels of a search, and draws it for the takers that lack tokens. Before the search `origin` and
+// `via` hold 256 throughout, so that they tell where it started and which givers it didn't meet.
 pub fn push(
     pred: &[u32],
     queue: &[usize],
