@@ -13,7 +13,6 @@ ghost use Rattle.settle.specs.Finished.{Advanced, Finished, FreeSaid, Ha
 use exchange::walk;
 use marks::Found;
 use push::push;
-use push::set_levels;
 use search::search;
 
 // Whether u was met and has tokens free.
@@ -72,22 +71,8 @@ fn advance(
     let Found::At(u) = found else {
         return false;
     };
-    let mut levels = [0usize; 256];
-    set_levels(share, queue, origin, via, tail, &mut levels);
     walk(pred, queue, origin, via, amount, fed, free, share, u, n);
-    push(
-        pred,
-        givers,
-        queue,
-        via,
-        &levels,
-        amount,
-        fed,
-        free,
-        share,
-        tail,
-        n,
-    );
+    push(pred, queue, origin, via, amount, fed, free, share, tail, n);
     true
 }
 

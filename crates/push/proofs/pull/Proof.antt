@@ -2,28 +2,28 @@
 use Prim.Native.Nat.{_-_, _≤_, zero-le}
 use native.Mathlib.Omega.{arith}
 use mathlib.Core.Path.{_≡_, refl, _∙_}
-use borrow.Author.Needs.{needs}
 use lib.ListN.{length}
 use Rattle.tokenflow.specs.Rows.{rows}
 use Rattle.drawing.specs.Moves.{Moved, moved-none, moved-then}
+use borrow.Author.Needs.{needs}
 use Rattle.push.proofs.pull.Statement.{statement}
 use Rattle.push.proofs.pull.Tie as tie
 
 abbrev Inv-loop : tie.InvT-loop
-Inv-loop pred spare₀ within₀ amount₀ fed₀ free₀ share₀ v level n counter₀ spare within amount fed free share counter = Moved n pred (rows amount₀ fed₀ free₀ share₀) (rows amount fed free share) × (length spare ≡ length spare₀) × (length within ≡ length within₀) × (counter ≤ 768)
+Inv-loop pred sets₀ within₀ amount₀ fed₀ free₀ share₀ v level n counter₀ sets within amount fed free share counter = Moved n pred (rows amount₀ fed₀ free₀ share₀) (rows amount fed free share) × (length sets ≡ length sets₀) × (length within ≡ length within₀) × (counter ≤ 768)
 
 abbrev μ-loop : tie.MeasureT-loop
-μ-loop pred spare₀ within₀ amount₀ fed₀ free₀ share₀ v level n counter₀ spare within amount fed free share counter = 768 - counter
+μ-loop pred sets₀ within₀ amount₀ fed₀ free₀ share₀ v level n counter₀ sets within amount fed free share counter = 768 - counter
 
 loop-holds : tie.Need-loop-holds Inv-loop μ-loop
 loop-holds c = let s = c .before .before .before .before .before .before .before in let a = s .args in (moved-none (a .n) (a .pred .now) (rows (a .amount .now) (a .fed .now) (a .free .now) (a .share .now)) (s .pre .0), refl, refl, zero-le)
 
 pull-once-requires : tie.Need-pull-once-requires Inv-loop μ-loop
-pull-once-requires c κs = let s = c .before .before .before .before .before .before .before .before .before .before .before .before .before .before .before in let l = c .before .before .before .before .before .before .before .loop in (l .inv .0 .flows, (s .pre .1 .0, ((omega (arith, l .inv .1, s .pre .1 .1 .0 .0), omega (arith, l .inv .2, s .pre .1 .1 .0 .1)), s .pre .1 .1 .1)))
+pull-once-requires c κs = let s = c .before .before .before .before .before .before .before .before .before .before .before .before .before .before .before in let l = c .before .before .before .before .before .before .before .loop in let p = s .pre .1 .1 in (l .inv .0 .flows, (s .pre .1 .0, (omega (arith, l .inv .1, p .0), omega (arith, l .inv .2, p .1), p .2)))
 
 -- the rows after a turn
-after : (c : tie.After-pull-once Inv-loop μ-loop) → let a = c .before .before .before .before .before .before .before .before .before .before .before .before .before .before .before .before .args in let d = c .pull-once in Moved (a .n) (a .pred .now) (rows (a .amount .now) (a .fed .now) (a .free .now) (a .share .now)) (rows (d .last .1 .1 .1 .0) (d .last .1 .1 .1 .1 .0) (d .last .1 .1 .1 .1 .1 .0) (d .last .1 .1 .1 .1 .1 .1 .0)) × (length (d .last .1 .0) ≡ length (a .spare .now)) × (length (d .last .1 .1 .0) ≡ length (a .within .now))
-after c = let a = c .before .before .before .before .before .before .before .before .before .before .before .before .before .before .before .before .args in let l = c .before .before .before .before .before .before .before .before .loop in (moved-then (a .n) (a .pred .now) (rows (a .amount .now) (a .fed .now) (a .free .now) (a .share .now)) (rows (l .amount) (l .fed) (l .free) (l .share)) _ (l .inv .0) (c .pull-once .ensures), c .pull-once .kept .1 .0 ∙ l .inv .1, c .pull-once .kept .1 .1 .0 ∙ l .inv .2)
+after : (c : tie.After-pull-once Inv-loop μ-loop) → let a = c .before .before .before .before .before .before .before .before .before .before .before .before .before .before .before .before .args in let d = c .pull-once in Moved (a .n) (a .pred .now) (rows (a .amount .now) (a .fed .now) (a .free .now) (a .share .now)) (rows (d .last .1 .1 .1 .0) (d .last .1 .1 .1 .1 .0) (d .last .1 .1 .1 .1 .1 .0) (d .last .1 .1 .1 .1 .1 .1 .0)) × (length (d .last .1 .0) ≡ length (a .sets .now)) × (length (d .last .1 .1 .0) ≡ length (a .within .now))
+after c = let a = c .before .before .before .before .before .before .before .before .before .before .before .before .before .before .before .before .args in let l = c .before .before .before .before .before .before .before .before .loop in let d = c .pull-once in (moved-then (a .n) (a .pred .now) (rows (a .amount .now) (a .fed .now) (a .free .now) (a .share .now)) (rows (l .amount) (l .fed) (l .free) (l .share)) _ (l .inv .0) (d .ensures), d .kept .1 .0 ∙ l .inv .1, d .kept .1 .1 .0 ∙ l .inv .2)
 
 same-length : tie.Need-same-length Inv-loop μ-loop
 same-length c = after (c .before .before .before .before .before .before .before .before .before .before .before .before .before) .1

@@ -1,4 +1,5 @@
 -- `push::push_level` meets its contract.
+use mathlib.Core.Path.{refl}
 use native.Mathlib.Omega.{arith}
 use Rattle.tokenflow.specs.Rows.{rows}
 use Rattle.drawing.specs.Moves.{moved-none}
@@ -13,7 +14,7 @@ add-mark-takers : tie.Need-add-mark-takers
 add-mark-takers c = search needs
 
 mark-takers-requires : tie.Need-mark-takers-requires
-mark-takers-requires c κs = search needs
+mark-takers-requires c κs = let s = c .before .before .before .before .before .before .before .before .before in let p = s .pre .1 .1 in ((s .pre .1 .0 .rows, omega (arith, p .0, p .2), omega arith), (p .1, p .3))
 
 slice-aggregate-meets : tie.Need-slice-aggregate-meets
 slice-aggregate-meets c = search needs
@@ -28,34 +29,31 @@ slice-aggregate-pull-all : tie.Need-slice-aggregate-pull-all
 slice-aggregate-pull-all c = search needs
 
 pull-all-requires : tie.Need-pull-all-requires
-pull-all-requires c κs = let s = c .before .before .before .before .before .before .before .before .before .before .before .before .before .before .before .before .before .before .before .before .before .before .before in (s .pre .0, (s .pre .1 .0, ((s .pre .1 .1 .0 .0, s .pre .1 .1 .0 .1, omega arith), s .pre .1 .1 .1 .1 .0)))
+pull-all-requires c κs = let s = c .before .before .before .before .before .before .before .before .before .before .before .before .before .before .before .before .before .before .before .before .before in let p = s .pre .1 .1 in (s .pre .0, (s .pre .1 .0, (p .0, omega arith, p .2)))
 
 same-length : tie.Need-same-length
-same-length c = search needs
+same-length c = c .before .before .before .before .before .before .before .before .before .before .before .pull-all .kept .1 .0
 
 same-length-2 : tie.Need-same-length-2
-same-length-2 c = search needs
+same-length-2 c = c .before .before .before .before .before .before .before .before .before .before .before .pull-all .kept .1 .1 .1 .0
 
 same-length-3 : tie.Need-same-length-3
-same-length-3 c = search needs
+same-length-3 c = c .before .before .before .before .before .before .before .before .before .before .before .pull-all .kept .1 .1 .1 .1 .0
 
 same-length-4 : tie.Need-same-length-4
-same-length-4 c = search needs
+same-length-4 c = c .before .before .before .before .before .before .before .before .before .before .before .pull-all .kept .1 .1 .1 .1 .1 .0
 
 same-length-5 : tie.Need-same-length-5
-same-length-5 c = search needs
-
-same-length-6 : tie.Need-same-length-6
-same-length-6 c = search needs
+same-length-5 c = c .before .before .before .before .before .before .before .before .before .before .before .pull-all .kept .1 .1 .1 .1 .1 .1 .0
 
 returns : tie.Need-returns
-returns c = search needs
+returns c = (c .before .before .before .before .before .before .before .before .before .before .before .pull-all .ensures, c .before .before .before .before .before .before .before .before .before .before .before .before .before .before .before .before .before .before .before .before .before .before .before .mark-takers .ensures)
 
-same-length-7 : tie.Need-same-length-7
-same-length-7 c = search needs
+same-length-6 : tie.Need-same-length-6
+same-length-6 c = refl
 
 returns-2 : tie.Need-returns-2
-returns-2 c = let s = c .before .before .before .before .before .before .before .before .before .before .before .before .before .before .before .before in let a = s .args in (moved-none (a .n) (a .pred .now) (rows (a .amount .now) (a .fed .now) (a .free .now) (a .share .now)) (s .pre .0), c .before .before .before .before .before .mark-takers .ensures)
+returns-2 c = let s = c .before .before .before .before .before .before .before .before .before .before .before .before .before .before .before in let a = s .args in (moved-none (a .n) (a .pred .now) (rows (a .amount .now) (a .fed .now) (a .free .now) (a .share .now)) (s .pre .0), c .before .before .before .before .before .mark-takers .ensures)
 
 pub push-level-spec : {M : Type 1} → statement M
 push-level-spec =
@@ -74,7 +72,6 @@ push-level-spec =
     same-length-3
     same-length-4
     same-length-5
-    same-length-6
     returns
-    same-length-7
+    same-length-6
     returns-2)

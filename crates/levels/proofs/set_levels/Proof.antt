@@ -1,14 +1,14 @@
--- `push::set_levels` meets its contract.
-use Prim.Native.Nat.{_-_, _≤_}
+-- `levels::set_levels` meets its contract.
+use Prim.Native.Nat.{_-_, _≤_, _<_}
 use borrow.Author.Needs.{needs}
-use Rattle.push.proofs.set_levels.Statement.{statement}
-use Rattle.push.proofs.set_levels.Tie as tie
+use Rattle.levels.proofs.set_levels.Statement.{statement}
+use Rattle.levels.proofs.set_levels.Tie as tie
 
 abbrev Inv-loop : tie.InvT-loop
-Inv-loop share queue origin via tail levels₀ at₀ levels at = at ≤ tail
+Inv-loop origin via levels₀ tail level₀ at₀ levels level at = (level < 256) × (at ≤ tail)
 
 abbrev μ-loop : tie.MeasureT-loop
-μ-loop share queue origin via tail levels₀ at₀ levels at = tail - at
+μ-loop origin via levels₀ tail level₀ at₀ levels level at = tail - at
 
 loop-holds : tie.Need-loop-holds Inv-loop μ-loop
 loop-holds c = search needs

@@ -1,16 +1,16 @@
--- `push::mark_givers` meets its contract.
-use Prim.Native.Nat.{_-_, _≤_, _<_}
+-- `levels::mark_givers` meets its contract.
+use Prim.Native.Nat.{_-_, _≤_}
 use mathlib.Core.Path.{_≡_}
 use lib.ListN.{length}
 use borrow.Author.Needs.{needs}
-use Rattle.push.proofs.mark_givers.Statement.{statement}
-use Rattle.push.proofs.mark_givers.Tie as tie
+use Rattle.levels.proofs.mark_givers.Statement.{statement}
+use Rattle.levels.proofs.mark_givers.Tie as tie
 
 abbrev Inv-loop : tie.InvT-loop
-Inv-loop givers via levels free met₀ spare₀ n deepest₀ u₀ met spare deepest u = (length met ≡ length met₀) × (length spare ≡ length spare₀) × (deepest < 256) × (u ≤ n)
+Inv-loop via levels free sets₀ n u₀ sets u = (length sets ≡ length sets₀) × (u ≤ n)
 
 abbrev μ-loop : tie.MeasureT-loop
-μ-loop givers via levels free met₀ spare₀ n deepest₀ u₀ met spare deepest u = n - u
+μ-loop via levels free sets₀ n u₀ sets u = n - u
 
 loop-holds : tie.Need-loop-holds Inv-loop μ-loop
 loop-holds c = search needs
@@ -30,9 +30,6 @@ loop-again c = search needs
 same-length : tie.Need-same-length Inv-loop μ-loop
 same-length c = search needs
 
-same-length-2 : tie.Need-same-length-2 Inv-loop μ-loop
-same-length-2 c = search needs
-
 returns : tie.Need-returns Inv-loop μ-loop
 returns c = search needs
 
@@ -48,5 +45,4 @@ mark-givers-spec =
     loop-less
     loop-again
     same-length
-    same-length-2
     returns)

@@ -1,16 +1,16 @@
--- `push::mark_takers` meets its contract.
+-- `levels::mark_takers` meets its contract.
 use Prim.Native.Nat.{_≤_}
 use mathlib.Core.Path.{_≡_}
 use lib.ListN.{length}
 use borrow.Author.Needs.{needs}
-use Rattle.push.proofs.mark_takers.Statement.{statement}
-use Rattle.push.proofs.mark_takers.Tie as tie
+use Rattle.levels.proofs.mark_takers.Statement.{statement}
+use Rattle.levels.proofs.mark_takers.Tie as tie
 
 abbrev Inv-loop : tie.InvT-loop
-Inv-loop pred queue levels spare within₀ level end at₀ within at = (length within ≡ length within₀) × (at ≤ end)
+Inv-loop pred queue levels sets within₀ level end at₀ within at = (length within ≡ length within₀) × (at ≤ end)
 
 abbrev μ-loop : tie.MeasureT-loop
-μ-loop pred queue levels spare within₀ level end at₀ within at = at
+μ-loop pred queue levels sets within₀ level end at₀ within at = at
 
 loop-holds : tie.Need-loop-holds Inv-loop μ-loop
 loop-holds c = search needs
