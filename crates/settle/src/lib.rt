@@ -76,7 +76,7 @@ fn advance(
     true
 }
 
-// Forgets by way of which place each giver was met.
+// Forgets by way of which place each giver was met, so that a push looks at those of the next search only.
 fn forget(via: &mut [usize])
     requires { ⌜ 256 ≤ length (now via) ⌝ }
 {
@@ -122,7 +122,8 @@ fn round(
     )
 }
 
-// Rounds until the search is the last. Each but that one leaves less lacking.
+// Rounds until the search is the last. Each but that one leaves less lacking. Where a search starts it writes no origin; 256 stays
+// there, which names no event, since later searches start at no more takers.
 pub fn settle(
     pred: &[u32],
     amount: &mut [u32],
