@@ -1,22 +1,17 @@
 -- A ready giver is never stuck, and after an exchange the next one is ready.
-use Prim.Native.Nat.{ℕ, _+_, _*_, _≤_, _<_, min}
-use native.Mathlib.Nat.{le-refl}
+use Prim.Native.Nat.{ℕ, _+_, _*_, _<_}
 use native.Mathlib.Omega.{arith}
-use mathlib.Core.Bool.{Bool, true, false, not}
 use mathlib.Core.List.{List}
 use mathlib.Core.Logic.{_⊎_, inl, inr, ⊎-elim}
-use mathlib.Core.Path.{_≡_, refl, sym, ap, subst, subst₂, _∙_}
-use lib.Dec.{T}
+use mathlib.Core.Path.{_≡_, refl, sym, subst}
 use lib.ListN.{getD}
 use Rattle.finite.specs.Sum.{on-yes}
 use Rattle.marks.specs.Marks.{marked}
 use Rattle.tokenflow.specs.Rows.{fedBy, Rows}
-use Rattle.tokenflow.specs.Flowing.{Flowing, lacking}
-use Rattle.drawing.specs.Moves.{DrawnMost}
-use Rattle.search.specs.Row.{In}
+use Rattle.tokenflow.specs.Flowing.{Flowing}
 use Rattle.search.specs.Trail.{_!_, Takers, Givers, takersOf, giversOf, FedBy, MetBy}
 use Rattle.exchange.specs.Exchange.{Exchanged}
-use Rattle.exchange.specs.Walk.{Route, Ready, TrailRows, IsReady, TakerPlace, NextGiver}
+use Rattle.exchange.specs.Walk.{TrailRows, IsReady, TakerPlace, NextGiver}
 
 module _ (n : ℕ) (pred : List ℕ) (m : TrailRows) (r : Rows) (u : ℕ) (row : List ℕ) (tail : ℕ) (met : List ℕ) (h : IsReady n pred m r u row tail met) where
   t : Takers
@@ -47,9 +42,9 @@ module _ (n : ℕ) (pred : List ℕ) (m : TrailRows) (r : Rows) (u : ℕ) (row :
         record { here = refl; names = h .0 .givers (m .origin ! at) (fed-there .giver); earlier = fed-there .earlier; feeds = fed-there .feeds }
 
     -- after an exchange there, the origin is ready
-    pub next-ready : (r′ : Rows) (k : ℕ) → Flowing n pred r → Exchanged n pred r r′ u (m .queue ! at) (m .origin ! at) k → IsReady n pred m r′ (m .origin ! at) row tail met
+    origin-ready : (r′ : Rows) (k : ℕ) → Flowing n pred r → Exchanged n pred r r′ u (m .queue ! at) (m .origin ! at) k → IsReady n pred m r′ (m .origin ! at) row tail met
     unfolding t g fedBy
-    next-ready r′ k f x =
+    origin-ready r′ k f x =
         let w : ℕ = m .queue ! at in
         let v : ℕ = m .origin ! at in
         let o = fed-there in
@@ -68,3 +63,7 @@ module _ (n : ℕ) (pred : List ℕ) (m : TrailRows) (r : Rows) (u : ℕ) (row :
                 (h .1 .reason i (omega arith));
           },
         )
+
+    pub next-ready : (v : ℕ) → v ≡ m .origin ! at → (r′ : Rows) (k : ℕ) → Flowing n pred r → Exchanged n pred r r′ u (m .queue ! at) v k → IsReady n pred m r′ v row tail met
+    next-ready v e r′ k f =
+        subst (λ (z : ℕ). Exchanged n pred r r′ u (m .queue ! at) z k → IsReady n pred m r′ z row tail met) (sym e) (origin-ready r′ k f)

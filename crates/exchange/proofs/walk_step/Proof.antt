@@ -1,14 +1,12 @@
 -- `exchange::walk_step` meets its contract.
 use Prim.Native.Nat.{ℕ}
-use native.Mathlib.Nat.{pos-of-ne-zero}
 use native.Mathlib.Omega.{arith}
-use mathlib.Core.Path.{_≡_, sym, subst}
+use mathlib.Core.Path.{refl, subst}
 use Rattle.marks.specs.Search.{Tells}
 use Rattle.tokenflow.specs.Rows.{Rows, rows}
 use Rattle.drawing.specs.Moves.{Moved, moved-none}
 use Rattle.search.specs.Trail.{_!_}
-use Rattle.exchange.specs.Exchange.{Exchanged}
-use Rattle.exchange.specs.Walk.{TrailRows, trailRows, IsReady, TakerPlace, NextGiver}
+use Rattle.exchange.specs.Walk.{TrailRows, trailRows, TakerPlace, NextGiver}
 use Rattle.exchange.proofs.Steps.{has-free, has-place, has-next, next-ready}
 use borrow.Author.Needs.{needs}
 use Rattle.exchange.proofs.walk_step.Statement.{statement}
@@ -81,19 +79,21 @@ draw-most-requires c κs =
     (s .pre .0, ((s .pre .1 .1 .1, p .names), p .ahead))
 
 same-length : tie.Need-same-length
-same-length c = search needs
+same-length c = c .before .before .before .before .before .before .before .before .draw-most .ensures .moved .sizes .amounts
 
 same-length-2 : tie.Need-same-length-2
-same-length-2 c = search needs
+same-length-2 c = c .before .before .before .before .before .before .before .before .draw-most .ensures .moved .sizes .marks
 
 same-length-3 : tie.Need-same-length-3
-same-length-3 c = search needs
+same-length-3 c = c .before .before .before .before .before .before .before .before .draw-most .ensures .moved .sizes .frees
 
 same-length-4 : tie.Need-same-length-4
-same-length-4 c = search needs
+same-length-4 c = c .before .before .before .before .before .before .before .before .draw-most .ensures .moved .sizes .shares
 
 returns-3 : tie.Need-returns-3
-returns-3 c = search needs
+returns-3 c =
+    let d = c .before .before .before .before .before .before .before .before .draw-most .ensures in
+    (d .moved, omega (arith, d .most, d .less, c .before .before .before .before .before .before .before .before .before .before .before .before .before .before .before .before .before .before .before .before .if1 .left, c .before .before .before .before .before .before .before .before .before .before .before .before .before .if2 .taken))
 
 next-giver-requires : tie.Need-next-giver-requires
 next-giver-requires c κs =
@@ -109,7 +109,7 @@ enum-told-2 : tie.Need-enum-told-2
 enum-told-2 c = search needs
 
 same-length-5 : tie.Need-same-length-5
-same-length-5 c = search needs
+same-length-5 c = refl
 
 returns-4 : tie.Need-returns-4
 returns-4 c =
@@ -131,26 +131,26 @@ exchange-requires c κs =
     (s .pre .0, ((s .pre .1 .1 .1, p .names, q .names), (p .ahead, q .feeds)))
 
 same-length-6 : tie.Need-same-length-6
-same-length-6 c = search needs
+same-length-6 c = c .before .before .before .before .before .before .before .before .exchange .ensures .moved .sizes .amounts
 
 same-length-7 : tie.Need-same-length-7
-same-length-7 c = search needs
+same-length-7 c = c .before .before .before .before .before .before .before .before .exchange .ensures .moved .sizes .marks
 
 same-length-8 : tie.Need-same-length-8
-same-length-8 c = search needs
+same-length-8 c = c .before .before .before .before .before .before .before .before .exchange .ensures .moved .sizes .frees
 
 same-length-9 : tie.Need-same-length-9
-same-length-9 c = search needs
+same-length-9 c = c .before .before .before .before .before .before .before .before .exchange .ensures .moved .sizes .shares
 
 returns-5 : tie.Need-returns-5
 returns-5 c =
     let s = c .before .before .before .before .before .before .before .before .before .before .before .before .before .before .before .before .before .before .before .before .before .before .before .before .before .before .before .before .before .before .before .before .before .before .before in
     let a = s .args in
-    let p = there (c .before .before .before .before .before .before .before .before .before .before .before .before .before .before .before .before .before .before .before .before .before .before) in
-    let q = then (c .before .before .before .before .before .before .before .before .before .before .before .before .before .before) in
+    let p = c .before .before .before .before .before .before .before .before .before .before .before .before .before .before .before .before .before .before .before .before .before .before in
+    let v = c .before .before .before .before .before .before .before .before .before .before .before .before .before .before in
     let x = c .before .before .before .before .before .before .before .before .exchange in (
       x .ensures .moved,
-      (q .names, omega (arith, q .earlier, p .here), λ row tail met h. subst (λ (z : ℕ). Exchanged (a .n) (a .pred .now) (held s) (rows (x .last .1 .0) (x .last .1 .1 .0) (x .last .1 .1 .1 .0) (x .last .1 .1 .1 .1 .0)) (a .u) (a .queue .now ! c .before .before .before .before .before .before .before .before .before .before .before .before .before .before .before .before .before .before .before .before .before .before .place .given .0 .0) z (x .result) → IsReady (a .n) (a .pred .now) (trail s) (rows (x .last .1 .0) (x .last .1 .1 .0) (x .last .1 .1 .1 .0) (x .last .1 .1 .1 .1 .0)) z row tail met) (sym (q .here)) (next-ready (a .n) (a .pred .now) (trail s) (held s) (a .u) row tail met h (c .before .before .before .before .before .before .before .before .before .before .before .before .before .before .before .before .before .before .before .before .before .before .place .given .0 .0) (p .here) (omega (arith, c .before .before .before .before .before .before .before .before .before .before .before .before .before .before .before .before .before .before .if2 .left)) (rows (x .last .1 .0) (x .last .1 .1 .0) (x .last .1 .1 .1 .0) (x .last .1 .1 .1 .1 .0)) (x .result) (s .pre .0)) (x .ensures)),
+      (then v .names, omega (arith, then v .earlier, there p .here), λ row tail met h. next-ready (a .n) (a .pred .now) (trail s) (held s) (a .u) row tail met h (p .place .given .0 .0) (there p .here) (omega (arith, c .before .before .before .before .before .before .before .before .before .before .before .before .before .before .before .before .before .before .if2 .left)) (v .next .given .0 .0) (then v .here) (rows (x .last .1 .0) (x .last .1 .1 .0) (x .last .1 .1 .1 .0) (x .last .1 .1 .1 .1 .0)) (x .result) (s .pre .0) (x .ensures)),
     )
 
 pub walk-step-spec : {M : Type 1} → statement M
