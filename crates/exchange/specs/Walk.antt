@@ -4,7 +4,9 @@ use mathlib.Core.Bool.{Bool, true, false}
 use mathlib.Core.List.{List}
 use mathlib.Core.Logic.{_⊎_}
 use mathlib.Core.Path.{_≡_}
+use lib.Dec.{T}
 use lib.ListN.{getD}
+use Rattle.marks.specs.Marks.{marked}
 use Rattle.tokenflow.specs.Rows.{Rows}
 use Rattle.tokenflow.specs.Flowing.{lacking}
 use Rattle.search.specs.Row.{In}
@@ -40,6 +42,20 @@ abbrev pub IsReady : ℕ → List ℕ → TrailRows → Rows → ℕ → List �
 IsReady n pred m r u row tail met =
     Route n pred (takersOf row (m .queue) (m .origin) tail) (giversOf met (m .via))
     × Ready r (takersOf row (m .queue) (m .origin) tail) (giversOf met (m .via)) u
+
+-- Place i is the one by way of which the giver u was met, and the taker there is an event that u is before.
+pub record TakerPlace (n : ℕ) (pred queue via : List ℕ) (u i : ℕ) : Type 0 where
+  pub here : i ≡ via ! u
+  pub near : i < 256
+  pub names : queue ! i < n
+  pub ahead : T (marked pred (queue ! i) u)
+
+-- v is the origin of place i, was met by way of an earlier place, and feeds the taker w.
+pub record NextGiver (n : ℕ) (origin via fed : List ℕ) (i w v : ℕ) : Type 0 where
+  pub here : v ≡ origin ! i
+  pub names : v < n
+  pub earlier : via ! v < i
+  pub feeds : T (marked fed v w)
 
 -- What a step from the giver u says: it drew tokens for a taker that lacked some; it is stuck, which no ready giver is; or it goes
 -- on at v, by way of an earlier place, and v is ready if u was.

@@ -2,16 +2,16 @@
 ghost use Prim.Native.Nat.{_<_, _≤_};
 ghost use lib.Dec.{T};
 ghost use lib.ListN.{length};
-ghost use mathlib.Core.Path.{_≡_};
 ghost use Rattle.marks.specs.Marks.{marked, HasRows};
+ghost use Rattle.marks.specs.Search.{Tells};
 ghost use Rattle.tokenflow.specs.Rows.{rows};
 ghost use Rattle.tokenflow.specs.Flowing.{Flowing};
 ghost use Rattle.drawing.specs.Moves.{Moved};
-ghost use Rattle.search.specs.Trail.{_!_};
 ghost use Rattle.exchange.specs.Exchange.{Exchanged};
-ghost use Rattle.exchange.specs.Walk.{trailRows, Stepped, Walked};
+ghost use Rattle.exchange.specs.Walk.{trailRows, TakerPlace, NextGiver, Stepped, Walked};
 use drawing::draw_most;
 use drawing::least;
+use marks::Found;
 use tokenflow::draw;
 use tokenflow::give_back;
 
@@ -48,41 +48,45 @@ pub enum Step {
     On(usize),
 }
 
-// The giver u, met by way of the place `at` where the taker w stands, feeds it in place of w's origin, where the walk goes on.
-fn swap(
-    pred: &[u32],
-    queue: &[usize],
-    origin: &[usize],
-    via: &[usize],
-    amount: &mut [u32],
-    fed: &mut [u32],
-    free: &mut [u32],
-    share: &mut [u32],
-    u: usize,
-    at: usize,
-    w: usize,
-    n: usize,
-) -> Step
-    requires { ⌜ Flowing n (now pred) (rows (now amount) (now fed) (now free) (now share)) ⌝ }
+// The place in the queue by way of which the giver u was met, if an event stands there that u is before.
+fn taker_place(pred: &[u32], queue: &[usize], via: &[usize], u: usize, n: usize) -> Found
     requires { ⌜ HasRows (now pred) 256 ⌝ }
+    requires { ⌜ (256 ≤ length (now queue)) × (256 ≤ length (now via)) ⌝ }
+    requires { ⌜ (u < n) × (n ≤ 256) ⌝ }
+    ensures { λ r. ⌜ Tells (TakerPlace n (now (pred .entry)) (now (queue .entry)) (now (via .entry)) u) r ⌝ }
+{
+    let at = via[u];
+    if at >= 256 {
+        return Found::Nothing;
+    }
+    let w = queue[at];
+    if w >= n {
+        return Found::Nothing;
+    }
+    if !marks::is_marked(pred, w, u) {
+        return Found::Nothing;
+    }
+    Found::At(at)
+}
+
+// The origin of the place `at`, if it feeds the taker w there and was met by way of an earlier place.
+fn next_giver(origin: &[usize], via: &[usize], fed: &[u32], at: usize, w: usize, n: usize) -> Found
     requires { ⌜ (256 ≤ length (now origin)) × (256 ≤ length (now via)) ⌝ }
-    requires { ⌜ (u < n) × (w < n) × (at < 256) × (at ≡ now via ! u) × (w ≡ now queue ! at) ⌝ }
-    requires { ⌜ T (marked (now pred) w u) × (0 < now free ! u) × (now share ! w ≡ 0) ⌝ }
-    ensures { λ r. ⌜ Moved n (now (pred .entry)) (rows (now (amount .entry)) (now (fed .entry)) (now (free .entry)) (now (share .entry))) (rows (now (amount .exit)) (now (fed .exit)) (now (free .exit)) (now (share .exit))) ⌝ }
-    ensures { λ r. ⌜ Stepped n (now (pred .entry)) (trailRows (now (queue .entry)) (now (origin .entry)) (now (via .entry))) (rows (now (amount .entry)) (now (fed .entry)) (now (free .entry)) (now (share .entry))) (rows (now (amount .exit)) (now (fed .exit)) (now (free .exit)) (now (share .exit))) u r ⌝ }
+    requires { ⌜ HasRows (now fed) 256 ⌝ }
+    requires { ⌜ (at < 256) × (w < n) × (n ≤ 256) ⌝ }
+    ensures { λ r. ⌜ Tells (NextGiver n (now (origin .entry)) (now (via .entry)) (now (fed .entry)) at w) r ⌝ }
 {
     let v = origin[at];
     if v >= n {
-        return Step::Stuck;
+        return Found::Nothing;
     }
     if via[v] >= at {
-        return Step::Stuck;
+        return Found::Nothing;
     }
     if !marks::is_marked(fed, v, w) {
-        return Step::Stuck;
+        return Found::Nothing;
     }
-    exchange(pred, amount, fed, free, share, u, w, v, n);
-    Step::On(v)
+    Found::At(v)
 }
 
 // One step of a walk from the giver u.
@@ -108,35 +112,21 @@ fn walk_step(
     if free[u] == 0 {
         return Step::Stuck;
     }
-    let at = via[u];
-    if at >= 256 {
+    let place = taker_place(pred, queue, via, u, n);
+    let Found::At(at) = place else {
         return Step::Stuck;
-    }
+    };
     let w = queue[at];
-    if w >= n {
+    if share[w] > 0 {
+        draw_most(pred, amount, fed, free, share, u, w, n);
+        return Step::Drew;
+    }
+    let next = next_giver(origin, via, fed, at, w, n);
+    let Found::At(v) = next else {
         return Step::Stuck;
-    }
-    if !marks::is_marked(pred, w, u) {
-        return Step::Stuck;
-    }
-    if share[w] == 0 {
-        return swap(
-            pred,
-            queue,
-            origin,
-            via,
-            amount,
-            fed,
-            free,
-            share,
-            u,
-            at,
-            w,
-            n,
-        );
-    }
-    draw_most(pred, amount, fed, free, share, u, w, n);
-    Step::Drew
+    };
+    exchange(pred, amount, fed, free, share, u, w, v, n);
+    Step::On(v)
 }
 
 // Walks from the giver u along the trail until a taker that lacks tokens draws some. Returns whether one did.

@@ -54,18 +54,6 @@ draw-requires c κs =
       may (a .n) (a .pred .now) (rows (a .amount .now) (a .fed .now) (a .free .now) (a .share .now)) (rows (g .last .0) (g .last .1 .0) (g .last .1 .1 .0) (g .last .1 .1 .1 .0)) (a .u) (a .w) (a .v) (k .result) (s .pre .0) (s .pre .1 .0 .0) (s .pre .1 .0 .1) (s .pre .1 .0 .2) (g .ensures .0) exact (omega (arith, k .ensures)),
     )
 
-same-length : tie.Need-same-length
-same-length c = search needs
-
-same-length-2 : tie.Need-same-length-2
-same-length-2 c = search needs
-
-same-length-3 : tie.Need-same-length-3
-same-length-3 c = search needs
-
-same-length-4 : tie.Need-same-length-4
-same-length-4 c = search needs
-
 returns-2 : tie.Need-returns-2
 returns-2 c =
     let s = c .before .before .before .before .before .before .before .before .before .before .before .before .before .before .before .before .before .before .before .before .before .before .before .before .before .before .before .before .before .before .before .before .before .before .before in
@@ -74,6 +62,18 @@ returns-2 c =
     let d = c .before .before .before .before .before .before .before .before .draw in
     let k = c .before .before .before .before .before .before .before .before .before .before .before .before .before .before .before .before .before .before .before .before .before .before .before .before .before .before .before .least in
     exchanged-some (a .n) (a .pred .now) (rows (a .amount .now) (a .fed .now) (a .free .now) (a .share .now)) (rows (g .last .0) (g .last .1 .0) (g .last .1 .1 .0) (g .last .1 .1 .1 .0)) (a .u) (a .w) (a .v) (k .result) (s .pre .0) (s .pre .1 .0 .0) (s .pre .1 .0 .1) (s .pre .1 .0 .2) (g .ensures .0) (g .ensures .1 (s .pre .0 .exact)) (rows (d .last .0) (d .last .1 .0) (d .last .1 .1 .0) (d .last .1 .1 .1 .0)) (d .ensures) (s .pre .1 .1 .0) (c .before .before .before .before .before .before .before .before .before .before .before .before .before .before .before .before .before .before .before .before .before .before .before .before .before .before .if1 .left) (k .ensures)
+
+same-length : tie.Need-same-length
+same-length c = returns-2 c .moved .sizes .amounts
+
+same-length-2 : tie.Need-same-length-2
+same-length-2 c = returns-2 c .moved .sizes .marks
+
+same-length-3 : tie.Need-same-length-3
+same-length-3 c = returns-2 c .moved .sizes .frees
+
+same-length-4 : tie.Need-same-length-4
+same-length-4 c = returns-2 c .moved .sizes .shares
 
 pub exchange-spec : {M : Type 1} → statement M
 exchange-spec =

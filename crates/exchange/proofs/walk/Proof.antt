@@ -37,7 +37,8 @@ after : (c : tie.After-walk-step Inv-loop μ-loop) → let a = c .before .before
 after c =
     let a = c .before .before .before .before .before .before .before .before .before .before .before .before .before .before .args in
     let l = c .before .before .before .before .before .loop in
-    moved-then (a .n) (a .pred .now) (rows (a .amount .now) (a .fed .now) (a .free .now) (a .share .now)) (rows (l .amount) (l .fed) (l .free) (l .share)) _ (l .inv .1) (c .walk-step .ensures .0)
+    let d = c .walk-step in
+    moved-then (a .n) (a .pred .now) (rows (a .amount .now) (a .fed .now) (a .free .now) (a .share .now)) (rows (l .amount) (l .fed) (l .free) (l .share)) (rows (d .last .1 .1 .1 .1 .0) (d .last .1 .1 .1 .1 .1 .0) (d .last .1 .1 .1 .1 .1 .1 .0) (d .last .1 .1 .1 .1 .1 .1 .1 .0)) (l .inv .1) (d .ensures .0)
 
 -- what the step said
 said : (c : tie.After-walk-step Inv-loop μ-loop) (came : Step) → c .walk-step .result ≡ came → let a = c .before .before .before .before .before .before .before .before .before .before .before .before .before .before .args in let l = c .before .before .before .before .before .loop in let d = c .walk-step in Stepped (a .n) (a .pred .now) (trailRows (a .queue .now) (a .origin .now) (a .via .now)) (rows (l .amount) (l .fed) (l .free) (l .share)) (rows (d .last .1 .1 .1 .1 .0) (d .last .1 .1 .1 .1 .1 .0) (d .last .1 .1 .1 .1 .1 .1 .0) (d .last .1 .1 .1 .1 .1 .1 .1 .0)) (l .giver) came
