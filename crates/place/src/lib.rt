@@ -1,24 +1,25 @@
 // One place of one plan, settled over all orders: the missing count, and what shows it.
-ghost use Prim.Native.Nat.{_-_, _<_, _≤_};
+ghost use Prim.Native.Nat.{ℕ, _-_, _<_, _≤_};
+ghost use mathlib.Core.List.{List};
 ghost use mathlib.Core.Path.{_≡_};
 ghost use lib.ListN.{length, set};
 ghost use Rattle.finite.specs.Filled.{Filled};
 ghost use Rattle.finite.specs.Sum.{sumOf};
-ghost use Rattle.sheet.specs.Table.{placesOf, transitionsOf, eventsOf};
-ghost use Rattle.sheet.specs.Items.{takesAt, givesAt, labelAt, netOf, planOf};
+ghost use Rattle.sheet.specs.Items.{netOf, planOf};
 ghost use Rattle.sheet.specs.Faultless.{Faultless};
+ghost use Rattle.layout.specs.Counts.{CountsOf};
 ghost use Rattle.plan.specs.Net.{takenBy, givenBy};
 ghost use Rattle.marks.specs.Marks.{HasRow};
 ghost use Rattle.tokenflow.specs.Rows.{rows, Sized};
 ghost use Rattle.tokenflow.specs.Flowing.{Flowing};
 ghost use Rattle.drawing.specs.Moves.{Moved, Order};
 ghost use Rattle.closure.specs.PlanRows.{Predecessors};
-ghost use Rattle.search.specs.Searched.{Room};
 ghost use Rattle.settle.specs.Finished.{Finished};
 ghost use Rattle.place.specs.Small.{Small};
 ghost use Rattle.place.specs.Start.{Start};
 ghost use Rattle.place.specs.Settled.{Judged};
 use drawing::draw_all;
+use layout::Counts;
 use lookup::Event;
 use lookup::Place;
 use lookup::gives;
@@ -28,46 +29,30 @@ use lookup::takes;
 use settle::settle;
 
 // What the event v gives to the place and takes from it, written at v.
-fn fill_event(
-    s: &[u8],
-    places: usize,
-    transitions: usize,
-    p: Place,
-    v: usize,
-    free: &mut [u32],
-    share: &mut [u32],
-)
+fn fill_event(s: &[u8], c: Counts, p: Place, v: usize, free: &mut [u32], share: &mut [u32])
     requires { ⌜ Faultless (now s) ⌝ }
-    requires { ⌜ (places ≡ placesOf (now s)) × (transitions ≡ transitionsOf (now s)) ⌝ }
-    requires { ⌜ (p .0 < places) × (v < eventsOf (now s)) ⌝ }
+    requires { ⌜ CountsOf (now s) c ⌝ }
+    requires { ⌜ (p .0 < c .places) × (v < c .events) ⌝ }
     requires { ⌜ (v < length (now free)) × (v < length (now share)) ⌝ }
     ensures { λ _. ⌜ now (free .exit) ≡ set (now (free .entry)) v (givenBy (netOf (now (s .entry))) (planOf (now (s .entry))) (p .0) v) ⌝ }
     ensures { λ _. ⌜ now (share .exit) ≡ set (now (share .entry)) v (takenBy (netOf (now (s .entry))) (planOf (now (s .entry))) (p .0) v) ⌝ }
 {
-    let t = label(s, places, transitions, Event(v));
-    free[v] = gives(s, places, t, p);
-    share[v] = takes(s, places, t, p);
+    let t = label(s, c.places, c.transitions, Event(v));
+    free[v] = gives(s, c.places, t, p);
+    share[v] = takes(s, c.places, t, p);
 }
 
 // What each event gives to the place and takes from it.
-fn fill(
-    s: &[u8],
-    places: usize,
-    transitions: usize,
-    n: usize,
-    p: Place,
-    free: &mut [u32],
-    share: &mut [u32],
-)
+fn fill(s: &[u8], c: Counts, p: Place, free: &mut [u32], share: &mut [u32])
     requires { ⌜ Faultless (now s) ⌝ }
-    requires { ⌜ (places ≡ placesOf (now s)) × (transitions ≡ transitionsOf (now s)) × (n ≡ eventsOf (now s)) ⌝ }
-    requires { ⌜ p .0 < places ⌝ }
+    requires { ⌜ CountsOf (now s) c ⌝ }
+    requires { ⌜ p .0 < c .places ⌝ }
     requires { ⌜ (256 ≤ length (now free)) × (256 ≤ length (now share)) ⌝ }
-    ensures { λ _. ⌜ Filled (givenBy (netOf (now (s .entry))) (planOf (now (s .entry))) (p .0)) n (now (free .entry)) (now (free .exit)) ⌝ }
-    ensures { λ _. ⌜ Filled (takenBy (netOf (now (s .entry))) (planOf (now (s .entry))) (p .0)) n (now (share .entry)) (now (share .exit)) ⌝ }
+    ensures { λ _. ⌜ Filled (givenBy (netOf (now (s .entry))) (planOf (now (s .entry))) (p .0)) (c .events) (now (free .entry)) (now (free .exit)) ⌝ }
+    ensures { λ _. ⌜ Filled (takenBy (netOf (now (s .entry))) (planOf (now (s .entry))) (p .0)) (c .events) (now (share .entry)) (now (share .exit)) ⌝ }
 {
-    for v in 0..n {
-        fill_event(s, places, transitions, p, v, free, share);
+    for v in 0..c.events {
+        fill_event(s, c, p, v, free, share);
     }
 }
 
@@ -94,32 +79,27 @@ fn total(row: &[u32], n: usize) -> u32
     sum
 }
 
-// The rows before anything is drawn. All events are marked as spare; those that have nothing free are unmarked when they are met.
+// The rows before anything is drawn.
 fn prepare(
     s: &[u8],
-    places: usize,
-    transitions: usize,
-    n: usize,
+    c: Counts,
     p: Place,
     amount: &[u32],
     fed: &mut [u32],
     free: &mut [u32],
     share: &mut [u32],
-    spare: &mut [u32],
 )
     requires { ⌜ Faultless (now s) ⌝ }
-    requires { ⌜ (places ≡ placesOf (now s)) × (transitions ≡ transitionsOf (now s)) × (n ≡ eventsOf (now s)) ⌝ }
-    requires { ⌜ p .0 < places ⌝ }
+    requires { ⌜ CountsOf (now s) c ⌝ }
+    requires { ⌜ p .0 < c .places ⌝ }
     requires { ⌜ Sized (rows (now amount) (now fed) (now free) (now share)) ⌝ }
-    requires { ⌜ HasRow (now spare) 0 ⌝ }
     ensures { λ _. ⌜ Start (netOf (now (s .entry))) (planOf (now (s .entry))) (p .0) (rows (now (amount .entry)) (now (fed .exit)) (now (free .exit)) (now (share .exit))) ⌝ }
 {
-    fill(s, places, transitions, n, p, free, share);
+    fill(s, c, p, free, share);
     put_words(fed, 2048, 0);
-    put_words(spare, 8, 4294967295);
 }
 
-// Draws and settles.
+// Draws and settles. All events are marked as spare at first; those that have nothing free are unmarked when they are met.
 fn run(
     pred: &[u32],
     order: &[usize],
@@ -127,36 +107,19 @@ fn run(
     fed: &mut [u32],
     free: &mut [u32],
     share: &mut [u32],
-    spare: &mut [u32],
-    takers: &mut [u32],
     givers: &mut [u32],
-    queue: &mut [usize],
-    origin: &mut [usize],
-    via: &mut [usize],
     n: usize,
 )
     requires { ⌜ Flowing n (now pred) (rows (now amount) (now fed) (now free) (now share)) ⌝ }
     requires { ⌜ Order n (now pred) ⌝ }
-    requires { ⌜ HasRow (now spare) 0 ⌝ }
     requires { ⌜ n ≤ length (now order) ⌝ }
-    requires { ⌜ Room (now takers) (now givers) (now queue) (now origin) (now via) ⌝ }
+    requires { ⌜ HasRow (now givers) 0 ⌝ }
     ensures { λ _. ⌜ Moved n (now (pred .entry)) (rows (now (amount .entry)) (now (fed .entry)) (now (free .entry)) (now (share .entry))) (rows (now (amount .exit)) (now (fed .exit)) (now (free .exit)) (now (share .exit))) ⌝ }
-    ensures { λ _. ⌜ Finished n (now (pred .entry)) (rows (now (amount .exit)) (now (fed .exit)) (now (free .exit)) (now (share .exit))) (now (takers .exit)) (now (givers .exit)) ⌝ }
+    ensures { λ _. ⌜ ((takers : List ℕ) × Finished n (now (pred .entry)) (rows (now (amount .exit)) (now (fed .exit)) (now (free .exit)) (now (share .exit))) takers (now (givers .exit))) ⌝ }
 {
-    draw_all(pred, order, amount, fed, free, share, spare, n);
-    settle(
-        pred,
-        amount,
-        fed,
-        free,
-        share,
-        takers,
-        givers,
-        queue,
-        origin,
-        via,
-        n,
-    );
+    let mut spare = [4294967295u32; 8];
+    draw_all(pred, order, amount, fed, free, share, &mut spare, n);
+    settle(pred, amount, fed, free, share, givers, n);
 }
 
 // What is lacking above the opening count.
@@ -169,59 +132,26 @@ fn above(lacks: u32, opening: u32) -> u32
 // The missing count of a place. The rows are settled then, and `givers` marks the smallest done set if something is missing.
 pub fn settle_place(
     s: &[u8],
-    places: usize,
-    transitions: usize,
-    n: usize,
+    c: Counts,
     p: Place,
     pred: &[u32],
     order: &[usize],
     amount: &mut [u32],
     fed: &mut [u32],
-    free: &mut [u32],
     share: &mut [u32],
-    spare: &mut [u32],
-    takers: &mut [u32],
     givers: &mut [u32],
-    queue: &mut [usize],
-    origin: &mut [usize],
-    via: &mut [usize],
 ) -> u32
     requires { ⌜ Faultless (now s) ⌝ }
-    requires { ⌜ (places ≡ placesOf (now s)) × (transitions ≡ transitionsOf (now s)) × (n ≡ eventsOf (now s)) ⌝ }
-    requires { ⌜ p .0 < places ⌝ }
+    requires { ⌜ CountsOf (now s) c ⌝ }
+    requires { ⌜ p .0 < c .places ⌝ }
     requires { ⌜ (256 ≤ length (now order)) × (length (now pred) ≡ 2048) × Predecessors (planOf (now s)) (now pred) ⌝ }
-    requires { ⌜ Sized (rows (now amount) (now fed) (now free) (now share)) ⌝ }
-    requires { ⌜ HasRow (now spare) 0 × Room (now takers) (now givers) (now queue) (now origin) (now via) ⌝ }
-    ensures { λ r. ⌜ Judged (netOf (now (s .entry))) (planOf (now (s .entry))) (p .0) (now (pred .entry)) (rows (now (amount .exit)) (now (fed .exit)) (now (free .exit)) (now (share .exit))) (now (givers .exit)) r ⌝ }
+    requires { ⌜ (65536 ≤ length (now amount)) × (2048 ≤ length (now fed)) × (256 ≤ length (now share)) × HasRow (now givers) 0 ⌝ }
+    ensures { λ r. ⌜ ((free : List ℕ) × Judged (netOf (now (s .entry))) (planOf (now (s .entry))) (p .0) (now (pred .entry)) (rows (now (amount .exit)) (now (fed .exit)) free (now (share .exit))) (now (givers .exit)) r) ⌝ }
 {
-    prepare(
-        s,
-        places,
-        transitions,
-        n,
-        p,
-        amount,
-        fed,
-        free,
-        share,
-        spare,
-    );
-    run(
-        pred,
-        order,
-        amount,
-        fed,
-        free,
-        share,
-        spare,
-        takers,
-        givers,
-        queue,
-        origin,
-        via,
-        n,
-    );
-    let lacks = total(share, n);
+    let mut free = [0u32; 256];
+    prepare(s, c, p, amount, fed, &mut free, share);
+    run(pred, order, amount, fed, &mut free, share, givers, c.events);
+    let lacks = total(share, c.events);
     let opens = opening(s, p);
     above(lacks, opens)
 }

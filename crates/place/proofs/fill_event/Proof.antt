@@ -13,8 +13,8 @@ label-requires c κs = search needs
 
 gives-requires : tie.Need-gives-requires
 gives-requires c κs =
-    let s = c .before .before .before .before in
-    (s .pre .0 .laid, (s .pre .1 .0 .0, (omega (arith, c .label .ensures, s .pre .0 .labels (s .args .v) (s .pre .1 .1 .0 .1)), s .pre .1 .1 .0 .0)))
+    let h = c .before .before .before .before .pre in
+    (h .0 .laid, (h .1 .0 .0, (omega (arith, c .label .ensures, h .0 .labels (c .before .before .before .before .args .v) (omega (arith, h .1 .1 .0 .1, h .1 .0 .2))), h .1 .1 .0 .0)))
 
 mul-free : tie.Need-mul-free
 mul-free c = search needs
@@ -24,8 +24,8 @@ slice-write-free c = search needs
 
 takes-requires : tie.Need-takes-requires
 takes-requires c κs =
-    let s = c .before .before .before .before .before in
-    (s .pre .0 .laid, (s .pre .1 .0 .0, (omega (arith, c .before .label .ensures, s .pre .0 .labels (s .args .v) (s .pre .1 .1 .0 .1)), s .pre .1 .1 .0 .0)))
+    let h = c .before .before .before .before .before .pre in
+    (h .0 .laid, (h .1 .0 .0, (omega (arith, c .before .label .ensures, h .0 .labels (c .before .before .before .before .before .args .v) (omega (arith, h .1 .1 .0 .1, h .1 .0 .2))), h .1 .1 .0 .0)))
 
 mul-share : tie.Need-mul-share
 mul-share c = search needs

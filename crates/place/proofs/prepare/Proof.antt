@@ -8,15 +8,10 @@ use Rattle.place.proofs.prepare.Statement.{statement}
 use Rattle.place.proofs.prepare.Tie as tie
 
 fill-requires : tie.Need-fill-requires
-fill-requires c κs =
-    let s = c .before .before .before .before .before .before .before .before in
-    (s .pre .0, (s .pre .1 .0, (s .pre .1 .1 .0, (s .pre .1 .1 .1 .0 .frees, s .pre .1 .1 .1 .0 .shares))))
+fill-requires c κs = search needs
 
 put-words-requires : tie.Need-put-words-requires
 put-words-requires c κs = search needs
-
-put-words-requires-2 : tie.Need-put-words-requires-2
-put-words-requires-2 c κs = search needs
 
 same-length : tie.Need-same-length
 same-length c = search needs
@@ -27,18 +22,15 @@ same-length-2 c = search needs
 same-length-3 : tie.Need-same-length-3
 same-length-3 c = search needs
 
-same-length-4 : tie.Need-same-length-4
-same-length-4 c = search needs
-
 returns : tie.Need-returns
 returns c =
-    let s = c .before .before .before .before .before .before .before .before .before .before .before .before .before .before .before .before .before .before .before .before .before in
-    let z = s .pre .1 .1 .1 .0 in
-    let n = s .pre .1 .0 .2 in
-    let f = c .before .before .before .before .before .before .before .before .before .before .before .before .fill .ensures in
-    let w = c .before .before .before .before .before .before .put-words .ensures in
+    let h = c .before .before .before .before .before .before .before .before .before .before .before .before .before .before .before .before .pre in
+    let z = h .1 .1 .1 in
+    let n = h .1 .0 .2 in
+    let f = c .before .before .before .before .before .before .before .before .fill .ensures in
+    let w = c .before .before .put-words .ensures in
     record {
-      events = s .pre .0 .laid .limited .events;
+      events = h .0 .laid .limited .events;
       sized = record {
         amounts = z .amounts;
         marks = omega (arith, w .size, z .marks);
@@ -53,12 +45,4 @@ returns c =
 pub prepare-spec : {M : Type 1} → statement M
 prepare-spec =
     tie.close
-    (tie.spec
-    fill-requires
-    put-words-requires
-    put-words-requires-2
-    same-length
-    same-length-2
-    same-length-3
-    same-length-4
-    returns)
+    (tie.spec fill-requires put-words-requires same-length same-length-2 same-length-3 returns)
