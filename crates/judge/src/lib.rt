@@ -3,115 +3,66 @@ ghost use Prim.Native.Nat.{_<_, _≤_};
 ghost use mathlib.Core.Path.{_≡_};
 ghost use lib.ListN.{length, set};
 ghost use Rattle.finite.specs.Filled.{Filled};
-ghost use Rattle.marks.specs.Marks.{HasRow};
-ghost use Rattle.tokenflow.specs.Rows.{rows, Sized};
-ghost use Rattle.search.specs.Searched.{Room};
-ghost use Rattle.sheet.specs.Table.{placesOf, transitionsOf, eventsOf};
 ghost use Rattle.sheet.specs.Items.{planOf};
 ghost use Rattle.sheet.specs.Faultless.{Faultless};
+ghost use Rattle.layout.specs.Counts.{CountsOf};
 ghost use Rattle.closure.specs.PlanRows.{Predecessors};
 ghost use Rattle.judge.specs.Counts.{missingAt};
+use layout::Counts;
 use lookup::Place;
 use place::settle_place;
 
 // The missing count of the place p, as the row's number p.
 fn count_place(
     s: &[u8],
-    places: usize,
-    transitions: usize,
-    n: usize,
+    c: Counts,
     p: usize,
     pred: &[u32],
     order: &[usize],
     amount: &mut [u32],
     fed: &mut [u32],
-    free: &mut [u32],
-    share: &mut [u32],
-    spare: &mut [u32],
-    takers: &mut [u32],
-    givers: &mut [u32],
-    queue: &mut [usize],
-    origin: &mut [usize],
-    via: &mut [usize],
     row: &mut [u32],
 )
     requires { ⌜ Faultless (now s) ⌝ }
-    requires { ⌜ (places ≡ placesOf (now s)) × (transitions ≡ transitionsOf (now s)) × (n ≡ eventsOf (now s)) ⌝ }
+    requires { ⌜ CountsOf (now s) c ⌝ }
     requires { ⌜ (256 ≤ length (now order)) × (length (now pred) ≡ 2048) × Predecessors (planOf (now s)) (now pred) ⌝ }
-    requires { ⌜ Sized (rows (now amount) (now fed) (now free) (now share)) ⌝ }
-    requires { ⌜ HasRow (now spare) 0 × Room (now takers) (now givers) (now queue) (now origin) (now via) ⌝ }
-    requires { ⌜ (p < places) × (p < length (now row)) ⌝ }
+    requires { ⌜ (65536 ≤ length (now amount)) × (2048 ≤ length (now fed)) ⌝ }
+    requires { ⌜ (p < c .places) × (p < length (now row)) ⌝ }
     ensures { λ _. ⌜ now (row .exit) ≡ set (now (row .entry)) p (missingAt (now (s .entry)) p) ⌝ }
 {
+    let mut share = [0u32; 256];
+    let mut givers = [0u32; 8];
     row[p] = settle_place(
         s,
-        places,
-        transitions,
-        n,
+        c,
         Place(p),
         pred,
         order,
         amount,
         fed,
-        free,
-        share,
-        spare,
-        takers,
-        givers,
-        queue,
-        origin,
-        via,
+        &mut share,
+        &mut givers,
     );
 }
 
 // The missing count of each place, in the row's first numbers.
 pub fn count_places(
     s: &[u8],
-    places: usize,
-    transitions: usize,
-    n: usize,
+    c: Counts,
     pred: &[u32],
     order: &[usize],
     amount: &mut [u32],
     fed: &mut [u32],
-    free: &mut [u32],
-    share: &mut [u32],
-    spare: &mut [u32],
-    takers: &mut [u32],
-    givers: &mut [u32],
-    queue: &mut [usize],
-    origin: &mut [usize],
-    via: &mut [usize],
     row: &mut [u32],
 )
     requires { ⌜ Faultless (now s) ⌝ }
-    requires { ⌜ (places ≡ placesOf (now s)) × (transitions ≡ transitionsOf (now s)) × (n ≡ eventsOf (now s)) ⌝ }
+    requires { ⌜ CountsOf (now s) c ⌝ }
     requires { ⌜ (256 ≤ length (now order)) × (length (now pred) ≡ 2048) × Predecessors (planOf (now s)) (now pred) ⌝ }
-    requires { ⌜ Sized (rows (now amount) (now fed) (now free) (now share)) ⌝ }
-    requires { ⌜ HasRow (now spare) 0 × Room (now takers) (now givers) (now queue) (now origin) (now via) ⌝ }
-    requires { ⌜ places ≤ length (now row) ⌝ }
-    ensures { λ _. ⌜ Filled (missingAt (now (s .entry))) places (now (row .entry)) (now (row .exit)) ⌝ }
+    requires { ⌜ (65536 ≤ length (now amount)) × (2048 ≤ length (now fed)) ⌝ }
+    requires { ⌜ c .places ≤ length (now row) ⌝ }
+    ensures { λ _. ⌜ Filled (missingAt (now (s .entry))) (c .places) (now (row .entry)) (now (row .exit)) ⌝ }
 {
-    for p in 0..places {
-        count_place(
-            s,
-            places,
-            transitions,
-            n,
-            p,
-            pred,
-            order,
-            amount,
-            fed,
-            free,
-            share,
-            spare,
-            takers,
-            givers,
-            queue,
-            origin,
-            via,
-            row,
-        );
+    for p in 0..c.places {
+        count_place(s, c, p, pred, order, amount, fed, row);
     }
 }

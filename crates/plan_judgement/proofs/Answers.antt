@@ -12,7 +12,7 @@ use Rattle.sheet.specs.Faultless.{faultless}
 use Rattle.calls.specs.Call.{lower-first, short-row, long-row}
 use Rattle.calls.specs.Overwritten.{overwritten, filled-is, at-fault, at-none}
 use Rattle.judge.specs.Counts.{missingAt}
-use Rattle.summary.specs.Summary.{countAt, Counts}
+use Rattle.summary.specs.Summary.{countAt, MissingCounts}
 use Rattle.summary.specs.Laws.{total-agrees, short-agrees, verdict-agrees}
 use Rattle.plan_judgement.specs.declared.Totals.{Totals}
 use Rattle.plan_judgement.specs.declared.Answer.{Answer}
@@ -39,7 +39,7 @@ module _ (s row : List ℕ) where
     -- the counts stand in the row
     module _ (places : ℕ) (is : places ≡ placesOf s) (long : places ≤ length row) (new : List ℕ) (counted : Filled (missingAt s) places row new) where
       -- they are small enough to be added up
-      pub counts : Counts new places
+      pub counts : MissingCounts new places
       counts =
           let known = faultless s none in
           record {

@@ -3,10 +3,10 @@ ghost use Prim.Native.Nat.{_≤_};
 ghost use mathlib.Core.Path.{_≡_};
 ghost use lib.ListN.{length};
 ghost use Rattle.finite.specs.Filled.{Filled};
-ghost use Rattle.summary.specs.Summary.{totalMissing, shortPlaces, verdictOf, countAt, Counts};
-ghost use Rattle.sheet.specs.Table.{placesOf, transitionsOf, eventsOf};
+ghost use Rattle.summary.specs.Summary.{totalMissing, shortPlaces, verdictOf, countAt, MissingCounts};
 ghost use Rattle.sheet.specs.Items.{planOf};
 ghost use Rattle.sheet.specs.Faultless.{Faultless};
+ghost use Rattle.layout.specs.Counts.{CountsOf};
 ghost use Rattle.order.specs.Rows.{OrderRows};
 ghost use Rattle.closure.specs.PlanRows.{Predecessors};
 ghost use Rattle.judge.specs.Counts.{missingAt};
@@ -14,7 +14,8 @@ ghost use Rattle.plan_judgement.specs.Judgement.{totalsIn, answerOf, row
 use drawing::event_order;
 use fault::examine;
 use judge::count_places;
-use layout::entry_count;
+use layout::Counts;
+use layout::counts_of;
 use summary::Verdict;
 use summary::short_places;
 use summary::total_missing;
@@ -33,56 +34,23 @@ pub enum Answer {
 }
 
 // Counts what is missing at each place, with the working rows for it.
-fn count_missing(
-    s: &[u8],
-    places: usize,
-    transitions: usize,
-    events: usize,
-    pred: &[u32],
-    row: &mut [u32],
-)
+fn count_missing(s: &[u8], c: Counts, pred: &[u32], row: &mut [u32])
     requires { ⌜ Faultless (now s) ⌝ }
-    requires { ⌜ (places ≡ placesOf (now s)) × (transitions ≡ transitionsOf (now s)) × (events ≡ eventsOf (now s)) ⌝ }
+    requires { ⌜ CountsOf (now s) c ⌝ }
     requires { ⌜ (length (now pred) ≡ 2048) × Predecessors (planOf (now s)) (now pred) ⌝ }
-    requires { ⌜ places ≤ length (now row) ⌝ }
-    ensures { λ _. ⌜ Filled (missingAt (now (s .entry))) places (now (row .entry)) (now (row .exit)) ⌝ }
+    requires { ⌜ c .places ≤ length (now row) ⌝ }
+    ensures { λ _. ⌜ Filled (missingAt (now (s .entry))) (c .places) (now (row .entry)) (now (row .exit)) ⌝ }
 {
     let mut order = [0usize; 256];
-    event_order(pred, events, &mut order);
+    event_order(pred, c.events, &mut order);
     let mut amount = [0u32; 65536];
     let mut fed = [0u32; 2048];
-    let mut free = [0u32; 256];
-    let mut share = [0u32; 256];
-    let mut spare = [0u32; 8];
-    let mut takers = [0u32; 8];
-    let mut givers = [0u32; 8];
-    let mut queue = [0usize; 256];
-    let mut origin = [0usize; 256];
-    let mut via = [0usize; 256];
-    count_places(
-        s,
-        places,
-        transitions,
-        events,
-        pred,
-        &order,
-        &mut amount,
-        &mut fed,
-        &mut free,
-        &mut share,
-        &mut spare,
-        &mut takers,
-        &mut givers,
-        &mut queue,
-        &mut origin,
-        &mut via,
-        row,
-    );
+    count_places(s, c, pred, &order, &mut amount, &mut fed, row);
 }
 
 // What the counts of the first n places come to.
 fn sum_up(row: &[u32], n: usize) -> Totals
-    requires { ⌜ Counts (now row) n × (n ≤ length (now row)) ⌝ }
+    requires { ⌜ MissingCounts (now row) n × (n ≤ length (now row)) ⌝ }
     ensures { λ r. ⌜ r ≡ totalsIn (countAt (now (row .entry))) n ⌝ }
 {
     let total = total_missing(row, n);
@@ -106,13 +74,11 @@ pub fn judge_plan(s: &[u8], row: &mut [u32]) -> Answer
     if k != 0 {
         return Answer::Fault(k);
     }
-    let places = entry_count(s, 0);
-    if row.len() < places {
+    let c = counts_of(s);
+    if row.len() < c.places {
         return Answer::Fault(13);
     }
-    let transitions = entry_count(s, 1);
-    let events = entry_count(s, 2);
-    count_missing(s, places, transitions, events, &pred, row);
-    let totals = sum_up(row, places);
+    count_missing(s, c, &pred, row);
+    let totals = sum_up(row, c.places);
     Answer::Judged(totals)
 }

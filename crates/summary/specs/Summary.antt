@@ -43,6 +43,6 @@ abbrev pub countAt : List ℕ → ℕ → ℕ
 countAt row p = getD row p 0
 
 -- A row of counts: 64 at most, each at most 256,000.
-pub record Counts (row : List ℕ) (n : ℕ) : Type 0 where
+pub record MissingCounts (row : List ℕ) (n : ℕ) : Type 0 where
   pub few : n ≤ 64
   pub most : (p : ℕ) → p < n → countAt row p ≤ 256000

@@ -2,7 +2,7 @@
 ghost use Prim.Native.Nat.{_≤_};
 ghost use mathlib.Core.Path.{_≡_};
 ghost use lib.ListN.{length};
-ghost use Rattle.summary.specs.Summary.{totalMissing, shortPlaces, verdictOf, countAt, Counts};
+ghost use Rattle.summary.specs.Summary.{totalMissing, shortPlaces, verdictOf, countAt, MissingCounts};
 use lookup::Place;
 
 // A plan runs, or is short at a first place by a missing count.
@@ -12,7 +12,7 @@ pub enum Verdict {
 }
 
 pub fn total_missing(row: &[u32], n: usize) -> u32
-    requires { ⌜ Counts (now row) n × (n ≤ length (now row)) ⌝ }
+    requires { ⌜ MissingCounts (now row) n × (n ≤ length (now row)) ⌝ }
     ensures { λ r. ⌜ r ≡ totalMissing (countAt (now (row .entry))) n ⌝ }
 {
     let mut total: u32 = 0;
@@ -23,7 +23,7 @@ pub fn total_missing(row: &[u32], n: usize) -> u32
 }
 
 pub fn short_places(row: &[u32], n: usize) -> u32
-    requires { ⌜ Counts (now row) n × (n ≤ length (now row)) ⌝ }
+    requires { ⌜ MissingCounts (now row) n × (n ≤ length (now row)) ⌝ }
     ensures { λ r. ⌜ r ≡ shortPlaces (countAt (now (row .entry))) n ⌝ }
 {
     let mut short: u32 = 0;

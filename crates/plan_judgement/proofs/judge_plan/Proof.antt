@@ -32,20 +32,14 @@ known c = faultless _ (absent c)
 returns : tie.Need-returns
 returns c = sheet-refused _ _ _ (c .before .before .before .examine .ensures .0) (c .if1 .taken)
 
-entry-count-requires : tie.Need-entry-count-requires
-entry-count-requires c κs = (omega arith, known c .laid .limited .table)
+counts-of-requires : tie.Need-counts-of-requires
+counts-of-requires c κs = known c .laid .limited .table
 
 returns-2 : tie.Need-returns-2
-returns-2 c = row-refused _ _ (absent (c .before .before)) (omega (arith, c .before .entry-count .ensures .0, c .if2 .taken))
-
-entry-count-requires-2 : tie.Need-entry-count-requires-2
-entry-count-requires-2 c κs = (omega arith, known (c .before .before) .laid .limited .table)
-
-entry-count-requires-3 : tie.Need-entry-count-requires-3
-entry-count-requires-3 c κs = (omega arith, known (c .before .before .before) .laid .limited .table)
+returns-2 c = row-refused _ _ (absent (c .before .before .before)) (omega (arith, c .before .before .counts-of .ensures .0, c .if2 .taken))
 
 -- the row is long enough
-long : (c : tie.Else2) → c .before .entry-count .result ≤ length (now (c .before .before .before .before .before .before .before .before .before .before .args .row))
+long : (c : tie.Else2) → c .before .before .counts-of .result .places ≤ length (now (c .before .before .before .before .before .before .before .before .before .before .before .args .row))
 long c = omega (arith, c .if2 .left)
 
 slice-aggregate-count-missing : tie.Need-slice-aggregate-count-missing
@@ -53,27 +47,21 @@ slice-aggregate-count-missing c = search needs
 
 count-missing-requires : tie.Need-count-missing-requires
 count-missing-requires c κs =
-    let order : OrderRows (planOf (now (c .before .before .before .before .before .before .before .before .before .before .before .before .before .before .args .s))) _ _ = c .before .before .before .before .before .before .before .before .before .examine .ensures .1 (c .before .before .before .before .before .before .if1 .left) in (
-      known (c .before .before .before .before .before .before),
-      (
-        (c .before .before .before .before .before .entry-count .ensures .0, c .before .before .before .entry-count2 .ensures .0, c .before .before .entry-count3 .ensures .0),
-        ((order .pred-size, order .ahead), long (c .before .before .before .before)),
-      ),
-    )
+    let order : OrderRows (planOf (now (c .before .before .before .before .before .before .before .before .before .before .before .before .before .args .s))) _ _ = c .before .before .before .before .before .before .before .before .examine .ensures .1 (c .before .before .before .before .before .if1 .left) in
+    (known (c .before .before .before .before .before), (c .before .before .before .before .counts-of .ensures, ((order .pred-size, order .ahead), long (c .before .before))))
 
 sum-up-requires : tie.Need-sum-up-requires
 sum-up-requires c κs =
-    let none = absent (c .before .before .before .before .before .before .before .before .before .before) in
-    let is = c .before .before .before .before .before .before .before .before .before .entry-count .ensures .0 in (
-      counts _ _ none _ is (long (c .before .before .before .before .before .before .before .before)) _ (c .before .before .before .count-missing .ensures),
-      in-row _ _ none _ is (long (c .before .before .before .before .before .before .before .before)) _ (c .before .before .before .count-missing .ensures),
-    )
+    let none = absent (c .before .before .before .before .before .before .before .before .before) in
+    let is = c .before .before .before .before .before .before .before .before .counts-of .ensures .0 in
+    let filled = c .before .before .before .count-missing .ensures in
+    (counts _ _ none _ is (long (c .before .before .before .before .before .before)) _ filled, in-row _ _ none _ is (long (c .before .before .before .before .before .before)) _ filled)
 
 same-length : tie.Need-same-length
 same-length c = search needs
 
 returns-3 : tie.Need-returns-3
-returns-3 c = judged _ _ (absent (c .before .before .before .before .before .before .before .before .before .before .before)) _ (c .before .before .before .before .before .before .before .before .before .before .entry-count .ensures .0) (long (c .before .before .before .before .before .before .before .before .before)) _ (c .before .before .before .before .count-missing .ensures) _ (c .sum-up .ensures)
+returns-3 c = judged _ _ (absent (c .before .before .before .before .before .before .before .before .before .before)) _ (c .before .before .before .before .before .before .before .before .before .counts-of .ensures .0) (long (c .before .before .before .before .before .before .before)) _ (c .before .before .before .before .count-missing .ensures) _ (c .sum-up .ensures)
 
 pub judge-plan-spec : {M : Type 1} → statement M
 judge-plan-spec =
@@ -83,10 +71,8 @@ judge-plan-spec =
     slice-aggregate-examine-2
     examine-requires
     returns
-    entry-count-requires
+    counts-of-requires
     returns-2
-    entry-count-requires-2
-    entry-count-requires-3
     slice-aggregate-count-missing
     count-missing-requires
     sum-up-requires
