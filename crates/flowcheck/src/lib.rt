@@ -4,15 +4,17 @@ ghost use mathlib.Core.Bool.{true, _&&_};
 ghost use mathlib.Core.Path.{_≡_};
 ghost use lib.ListN.{length, replicate};
 ghost use Rattle.plan.specs.Flow.{rule1, rule2, rule4, valid};
-ghost use Rattle.sheet.specs.Table.{placesOf, transitionsOf, eventsOf, pairsOf};
+ghost use Rattle.sheet.specs.Table.{placesOf, pairsOf};
 ghost use Rattle.sheet.specs.Items.{netOf, planOf};
 ghost use Rattle.sheet.specs.Faultless.{Faultless};
+ghost use Rattle.layout.specs.Counts.{CountsOf};
 ghost use Rattle.order.specs.Rows.{OrderRows};
 ghost use Rattle.calls.specs.FlowRow.{flowOf, flowLength};
 ghost use Rattle.flowcheck.specs.Sums.{Carried, sharesOf};
 ghost use Rattle.flowcheck.specs.Checked.{checkedOf};
 use fault::examine;
-use layout::entry_count;
+use layout::Counts;
+use layout::counts_of;
 use lookup::Event;
 use lookup::Place;
 use lookup::earlier;
@@ -36,10 +38,7 @@ pub enum Checked {
 // Rule 4. Where it holds, `into` and `out` are what the pairs carry into each event and out of it.
 fn add_pairs(
     s: &[u8],
-    places: usize,
-    transitions: usize,
-    events: usize,
-    pairs: usize,
+    c: Counts,
     row: &[u32],
     succ: &[u32],
     pred: &[u32],
@@ -47,16 +46,16 @@ fn add_pairs(
     out: &mut [u64],
 ) -> bool
     requires { ⌜ Faultless (now s) ⌝ }
-    requires { ⌜ (places ≡ placesOf (now s)) × (transitions ≡ transitionsOf (now s)) × (events ≡ eventsOf (now s)) × (pairs ≡ pairsOf (now s)) ⌝ }
+    requires { ⌜ CountsOf (now s) c ⌝ }
     requires { ⌜ OrderRows (planOf (now s)) (now succ) (now pred) ⌝ }
-    requires { ⌜ pairs ≤ length (now row) ⌝ }
+    requires { ⌜ c .pairs ≤ length (now row) ⌝ }
     requires { ⌜ (now into ≡ replicate 256 0) × (now out ≡ replicate 256 0) ⌝ }
     ensures { λ r. ⌜ r ≡ rule4 (planOf (now (s .entry))) (flowOf (now (row .entry))) ⌝ }
     ensures { λ r. ⌜ (r ≡ true → Carried (planOf (now (s .entry))) (flowOf (now (row .entry))) (pairsOf (now (s .entry))) (now (into .exit)) (now (out .exit))) ⌝ }
 {
-    for i in 0..pairs {
-        let a = earlier(s, places, transitions, events, i);
-        let b = later(s, places, transitions, events, i);
+    for i in 0..c.pairs {
+        let a = earlier(s, c.places, c.transitions, c.events, i);
+        let b = later(s, c.places, c.transitions, c.events, i);
         let x = row[i];
         if !may_carry(succ, pred, a.0, b.0, x) {
             return false;
@@ -81,29 +80,19 @@ fn add_shares(row: &[u32], pairs: usize, events: usize) -> u64
 }
 
 // Rules 1 and 2.
-fn is_balanced(
-    s: &[u8],
-    places: usize,
-    transitions: usize,
-    events: usize,
-    pairs: usize,
-    p: Place,
-    row: &[u32],
-    into: &[u64],
-    out: &[u64],
-) -> bool
+fn is_balanced(s: &[u8], c: Counts, p: Place, row: &[u32], into: &[u64], out: &[u64]) -> bool
     requires { ⌜ Faultless (now s) ⌝ }
-    requires { ⌜ (places ≡ placesOf (now s)) × (transitions ≡ transitionsOf (now s)) × (events ≡ eventsOf (now s)) × (pairs ≡ pairsOf (now s)) ⌝ }
+    requires { ⌜ CountsOf (now s) c ⌝ }
     requires { ⌜ p .0 < placesOf (now s) ⌝ }
     requires { ⌜ flowLength (now s) ≤ length (now row) ⌝ }
     requires { ⌜ Carried (planOf (now s)) (flowOf (now row)) (pairsOf (now s)) (now into) (now out) ⌝ }
     ensures { λ r. ⌜ r ≡ (rule1 (netOf (now (s .entry))) (planOf (now (s .entry))) (p .0) (flowOf (now (row .entry))) && rule2 (netOf (now (s .entry))) (planOf (now (s .entry))) (p .0) (flowOf (now (row .entry)))) ⌝ }
 {
-    for v in 0..events {
-        let t = label(s, places, transitions, Event(v));
-        let taken = takes(s, places, t, p);
-        let given = gives(s, places, t, p);
-        let arrived = wide(row[pairs + v]) + into[v];
+    for v in 0..c.events {
+        let t = label(s, c.places, c.transitions, Event(v));
+        let taken = takes(s, c.places, t, p);
+        let given = gives(s, c.places, t, p);
+        let arrived = wide(row[c.pairs + v]) + into[v];
         if !keeps(taken, given, arrived, out[v]) {
             return false;
         }
@@ -112,19 +101,9 @@ fn is_balanced(
 }
 
 // Whether all four rules hold. The order of the plan is handed in, so that it is worked out once.
-fn is_valid(
-    s: &[u8],
-    places: usize,
-    transitions: usize,
-    events: usize,
-    pairs: usize,
-    p: Place,
-    row: &[u32],
-    succ: &[u32],
-    pred: &[u32],
-) -> bool
+fn is_valid(s: &[u8], c: Counts, p: Place, row: &[u32], succ: &[u32], pred: &[u32]) -> bool
     requires { ⌜ Faultless (now s) ⌝ }
-    requires { ⌜ (places ≡ placesOf (now s)) × (transitions ≡ transitionsOf (now s)) × (events ≡ eventsOf (now s)) × (pairs ≡ pairsOf (now s)) ⌝ }
+    requires { ⌜ CountsOf (now s) c ⌝ }
     requires { ⌜ p .0 < placesOf (now s) ⌝ }
     requires { ⌜ flowLength (now s) ≤ length (now row) ⌝ }
     requires { ⌜ OrderRows (planOf (now s)) (now succ) (now pred) ⌝ }
@@ -132,25 +111,14 @@ fn is_valid(
 {
     let mut into = [0u64; 256];
     let mut out = [0u64; 256];
-    if !add_pairs(
-        s,
-        places,
-        transitions,
-        events,
-        pairs,
-        row,
-        succ,
-        pred,
-        &mut into,
-        &mut out,
-    ) {
+    if !add_pairs(s, c, row, succ, pred, &mut into, &mut out) {
         return false;
     }
-    let total = add_shares(row, pairs, events);
+    let total = add_shares(row, c.pairs, c.events);
     if !covers(opening(s, p), total) {
         return false;
     }
-    is_balanced(s, places, transitions, events, pairs, p, row, &into, &out)
+    is_balanced(s, c, p, row, &into, &out)
 }
 
 // The flow check: Valid exactly if the row is valid. Any numbers may stand in it.
@@ -163,17 +131,14 @@ pub fn check_flow(s: &[u8], p: Place, row: &[u32]) -> Checked
     if k != 0 {
         return Checked::Fault(k);
     }
-    let places = entry_count(s, 0);
-    if places <= p.0 {
+    let c = counts_of(s);
+    if c.places <= p.0 {
         return Checked::Fault(12);
     }
-    let transitions = entry_count(s, 1);
-    let events = entry_count(s, 2);
-    let pairs = entry_count(s, 3);
-    if row.len() < pairs + events {
+    if row.len() < c.pairs + c.events {
         return Checked::Fault(13);
     }
-    if is_valid(s, places, transitions, events, pairs, p, row, &succ, &pred) {
+    if is_valid(s, c, p, row, &succ, &pred) {
         Checked::Valid
     } else {
         Checked::Invalid

@@ -6,9 +6,10 @@ ghost use mathlib.Core.Path.{_≡_};
 ghost use lib.ListN.{length, getD};
 ghost use Rattle.plan.specs.Net.{Plan};
 ghost use Rattle.plan.specs.Order.{Before};
-ghost use Rattle.sheet.specs.Table.{placesOf, transitionsOf, eventsOf, pairsOf};
+ghost use Rattle.sheet.specs.Table.{pairsOf};
 ghost use Rattle.sheet.specs.Items.{planOf};
 ghost use Rattle.sheet.specs.Faultless.{Faultless};
+ghost use Rattle.layout.specs.Counts.{CountsOf};
 ghost use Rattle.order.specs.Rows.{Blank, OrderRows};
 ghost use Rattle.tokenflow.specs.Rows.{fedBy};
 ghost use Rattle.fold.specs.Folded.{Folded};
@@ -18,6 +19,7 @@ ghost use Rattle.fold.specs.Linked.{Linked, Walkable, StepBack};
 ghost use Rattle.fold.specs.Written.{numbersOf, Zeros, SharesWritten, SharesFrom};
 ghost use Rattle.fold.specs.Feeding.{Foldable};
 use closure::is_skeleton;
+use layout::Counts;
 use lookup::earlier;
 use lookup::later;
 use marks::Found;
@@ -28,24 +30,21 @@ use marks::mark;
 // Marks each skeleton pair (a, b) in row b of `skel`, and puts its number at a * 256 + b of `index`.
 pub fn index_pairs(
     s: &[u8],
-    places: usize,
-    transitions: usize,
-    events: usize,
-    pairs: usize,
+    c: Counts,
     succ: &[u32],
     pred: &[u32],
     skel: &mut [u32],
     index: &mut [usize],
 )
     requires { ⌜ Faultless (now s) ⌝ }
-    requires { ⌜ (places ≡ placesOf (now s)) × (transitions ≡ transitionsOf (now s)) × (events ≡ eventsOf (now s)) × (pairs ≡ pairsOf (now s)) ⌝ }
+    requires { ⌜ CountsOf (now s) c ⌝ }
     requires { ⌜ OrderRows (planOf (now s)) (now succ) (now pred) ⌝ }
     requires { ⌜ Blank (now skel) × (65536 ≤ length (now index)) ⌝ }
     ensures { λ _. ⌜ Linked (planOf (now (s .entry))) (pairsOf (now (s .entry))) (now (skel .exit)) (now (index .exit)) ⌝ }
 {
-    for i in 0..pairs {
-        let a = earlier(s, places, transitions, events, i);
-        let b = later(s, places, transitions, events, i);
+    for i in 0..c.pairs {
+        let a = earlier(s, c.places, c.transitions, c.events, i);
+        let b = later(s, c.places, c.transitions, c.events, i);
         if is_skeleton(succ, pred, a.0, b.0) {
             mark(skel, b.0, a.0);
             let at = a.0 * 256 + b.0;

@@ -4,18 +4,16 @@ ghost use mathlib.Core.Bool.{cond};
 ghost use mathlib.Core.List.{List};
 ghost use mathlib.Core.Path.{_≡_};
 ghost use lib.Dec.{T};
-ghost use lib.ListN.{length, getD};
+ghost use lib.ListN.{length};
 ghost use Rattle.finite.specs.Filled.{Filled};
-ghost use Rattle.finite.specs.Sum.{sumOf};
 ghost use Rattle.marks.specs.Marks.{HasRow};
 ghost use Rattle.plan.specs.Flow.{valid};
-ghost use Rattle.theory.specs.Tokenflow.{Tokenflow};
-ghost use Rattle.sheet.specs.Table.{placesOf, transitionsOf, eventsOf, pairsOf};
-ghost use Rattle.sheet.specs.Items.{netOf, openingAt, planOf};
+ghost use Rattle.plan.specs.Net.{Net, Plan};
+ghost use Rattle.sheet.specs.Items.{netOf, planOf};
 ghost use Rattle.sheet.specs.Faultless.{Faultless};
+ghost use Rattle.layout.specs.Counts.{CountsOf};
 ghost use Rattle.order.specs.Rows.{OrderRows};
-ghost use Rattle.tokenflow.specs.Rows.{rows, fedBy};
-ghost use Rattle.tokenflow.specs.Flowing.{Flowing};
+ghost use Rattle.tokenflow.specs.Rows.{Rows, rows};
 ghost use Rattle.search.specs.Row.{members};
 ghost use Rattle.calls.specs.FlowRow.{flowOf};
 ghost use Rattle.calls.specs.Overwritten.{overwritten};
@@ -24,17 +22,15 @@ ghost use Rattle.fold.specs.Written.{SharesFrom};
 ghost use Rattle.handing.specs.Handed.{doneMark, Written};
 use fold::index_pairs;
 use fold::write_flow;
+use layout::Counts;
 use lookup::Place;
 use marks::is_marked;
 use place::put_words;
 
-// Writes a tokenflow of the place as a flow row, by way of the skeleton pairs.
+// Writes the tokenflow of a place that lacks nothing as a flow row, by way of the skeleton pairs.
 fn hand_over(
     s: &[u8],
-    places: usize,
-    transitions: usize,
-    n: usize,
-    pairs: usize,
+    c: Counts,
     p: Place,
     succ: &[u32],
     pred: &[u32],
@@ -44,29 +40,48 @@ fn hand_over(
     flow: &mut [u32],
 )
     requires { ⌜ Faultless (now s) ⌝ }
-    requires { ⌜ (places ≡ placesOf (now s)) × (transitions ≡ transitionsOf (now s)) × (n ≡ eventsOf (now s)) × (pairs ≡ pairsOf (now s)) ⌝ }
-    requires { ⌜ p .0 < places ⌝ }
+    requires { ⌜ CountsOf (now s) c ⌝ }
+    requires { ⌜ p .0 < c .places ⌝ }
     requires { ⌜ OrderRows (planOf (now s)) (now succ) (now pred) ⌝ }
-    requires { ⌜ ((free : List ℕ) × Flowing n (now pred) (rows (now amount) (now fed) free (now share)) × Tokenflow (netOf (now s)) (planOf (now s)) (p .0) (λ u w. fedBy (now amount) (now fed) u w) (λ u. getD free u 0) (λ w. getD (now share) w 0)) ⌝ }
-    requires { ⌜ sumOf (now share) n ≤ openingAt (now s) (p .0) ⌝ }
-    requires { ⌜ pairs + n ≤ length (now flow) ⌝ }
+    requires { ⌜ ((free : List ℕ) × (givers : List ℕ) × Judged (netOf (now s)) (planOf (now s)) (p .0) (now pred) (rows (now amount) (now fed) free (now share)) givers 0) ⌝ }
+    requires { ⌜ c .pairs + c .events ≤ length (now flow) ⌝ }
     ensures { λ _. ⌜ T (valid (netOf (now (s .entry))) (planOf (now (s .entry))) (p .0) (flowOf (now (flow .exit)))) ⌝ }
-    ensures { λ _. ⌜ SharesFrom pairs (now (flow .entry)) (now (flow .exit)) (now (share .entry)) n ⌝ }
+    ensures { λ _. ⌜ SharesFrom (c .pairs) (now (flow .entry)) (now (flow .exit)) (now (share .entry)) (c .events) ⌝ }
 {
     let mut skel = [0u32; 2048];
     let mut index = [0usize; 65536];
-    index_pairs(
-        s,
-        places,
-        transitions,
-        n,
-        pairs,
-        succ,
-        pred,
-        &mut skel,
-        &mut index,
-    );
+    index_pairs(s, c, succ, pred, &mut skel, &mut index);
+    let pairs = c.pairs;
+    let n = c.events;
     write_flow(succ, &skel, &index, amount, fed, share, flow, pairs, n);
+}
+
+// Writes the flow row of a settled place: a valid flow if nothing is missing, else zeros.
+pub fn hand_flow(
+    s: &[u8],
+    c: Counts,
+    p: Place,
+    succ: &[u32],
+    pred: &[u32],
+    amount: &[u32],
+    fed: &[u32],
+    share: &[u32],
+    m: u32,
+    flow: &mut [u32],
+)
+    requires { ⌜ Faultless (now s) ⌝ }
+    requires { ⌜ CountsOf (now s) c ⌝ }
+    requires { ⌜ p .0 < c .places ⌝ }
+    requires { ⌜ OrderRows (planOf (now s)) (now succ) (now pred) ⌝ }
+    requires { ⌜ ((free : List ℕ) × (givers : List ℕ) × Judged (netOf (now s)) (planOf (now s)) (p .0) (now pred) (rows (now amount) (now fed) free (now share)) givers m) ⌝ }
+    requires { ⌜ c .pairs + c .events ≤ length (now flow) ⌝ }
+    ensures { λ _. ⌜ Written (now (s .entry)) (p .0) (now (flow .entry)) (now (flow .exit)) ⌝ }
+{
+    if m == 0 {
+        hand_over(s, c, p, succ, pred, amount, fed, share, flow);
+        return;
+    }
+    put_words(flow, c.pairs + c.events, 0);
 }
 
 // The mark of the event v: 1 if it is in the set, else 0.
@@ -97,51 +112,14 @@ fn clear_marks(marks: &mut [u8], n: usize)
     }
 }
 
-// Writes what a settled place hands over: a valid flow and no marks if nothing is missing, else zeros and the marks of the done set.
-pub fn hand_back(
-    s: &[u8],
-    places: usize,
-    transitions: usize,
-    n: usize,
-    pairs: usize,
-    p: Place,
-    succ: &[u32],
-    pred: &[u32],
-    amount: &[u32],
-    fed: &[u32],
-    share: &[u32],
-    givers: &[u32],
-    m: u32,
-    flow: &mut [u32],
-    marks: &mut [u8],
-)
-    requires { ⌜ Faultless (now s) ⌝ }
-    requires { ⌜ (places ≡ placesOf (now s)) × (transitions ≡ transitionsOf (now s)) × (n ≡ eventsOf (now s)) × (pairs ≡ pairsOf (now s)) ⌝ }
-    requires { ⌜ p .0 < places ⌝ }
-    requires { ⌜ OrderRows (planOf (now s)) (now succ) (now pred) ⌝ }
-    requires { ⌜ HasRow (now givers) 0 × ((free : List ℕ) × Judged (netOf (now s)) (planOf (now s)) (p .0) (now pred) (rows (now amount) (now fed) free (now share)) (now givers) m) ⌝ }
-    requires { ⌜ (pairs + n ≤ length (now flow)) × (n ≤ length (now marks)) ⌝ }
-    ensures { λ _. ⌜ now (marks .exit) ≡ overwritten (doneMark (netOf (now (s .entry))) (planOf (now (s .entry))) (p .0)) (eventsOf (now (s .entry))) (now (marks .entry)) ⌝ }
-    ensures { λ _. ⌜ Written (now (s .entry)) (p .0) (now (flow .entry)) (now (flow .exit)) ⌝ }
+// Marks the done set of any place that was settled with these givers and m missing: no event if nothing is missing.
+pub fn hand_marks(givers: &[u32], m: u32, marks: &mut [u8], n: usize)
+    requires { ⌜ HasRow (now givers) 0 × (n ≤ 256) × (n ≤ length (now marks)) ⌝ }
+    ensures { λ _. ⌜ ((N : Net) (P : Plan) (p : ℕ) (pred : List ℕ) (r : Rows) → Judged N P p pred r (now (givers .entry)) m → now (marks .exit) ≡ overwritten (doneMark N P p) n (now (marks .entry))) ⌝ }
 {
-    if m == 0 {
-        hand_over(
-            s,
-            places,
-            transitions,
-            n,
-            pairs,
-            p,
-            succ,
-            pred,
-            amount,
-            fed,
-            share,
-            flow,
-        );
-        clear_marks(marks, n);
+    if m != 0 {
+        write_marks(givers, marks, n);
         return;
     }
-    put_words(flow, pairs + n, 0);
-    write_marks(givers, marks, n);
+    clear_marks(marks, n);
 }

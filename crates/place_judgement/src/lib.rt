@@ -5,9 +5,10 @@ ghost use mathlib.Core.Path.{_≡_};
 ghost use lib.ListN.{length};
 ghost use Rattle.marks.specs.Marks.{HasRow};
 ghost use Rattle.plan.specs.Prefix.{missing};
-ghost use Rattle.sheet.specs.Table.{placesOf, transitionsOf, eventsOf, pairsOf};
+ghost use Rattle.sheet.specs.Table.{eventsOf};
 ghost use Rattle.sheet.specs.Items.{netOf, planOf};
 ghost use Rattle.sheet.specs.Faultless.{Faultless};
+ghost use Rattle.layout.specs.Counts.{CountsOf};
 ghost use Rattle.closure.specs.PlanRows.{Predecessors};
 ghost use Rattle.order.specs.Rows.{OrderRows};
 ghost use Rattle.tokenflow.specs.Rows.{rows};
@@ -17,8 +18,10 @@ ghost use Rattle.handing.specs.Handed.{doneMark, Written};
 ghost use Rattle.place_judgement.specs.Judgement.{Handed, judgementOf, marksAfter};
 use drawing::event_order;
 use fault::examine;
-use handing::hand_back;
-use layout::entry_count;
+use handing::hand_flow;
+use handing::hand_marks;
+use layout::Counts;
+use layout::counts_of;
 use lookup::Place;
 use place::settle_place;
 
@@ -28,12 +31,11 @@ pub enum Judgement {
     Short(u32),
 }
 
-// Settles the place of a sheet without fault, with the working rows for it. Returns the missing count; the lent rows hold what shows it.
+// Settles the place of a sheet without fault, in an order of its events that is worked out here. Returns the missing count; the lent rows
+// hold what shows it.
 fn settle_alone(
     s: &[u8],
-    places: usize,
-    transitions: usize,
-    n: usize,
+    c: Counts,
     p: Place,
     pred: &[u32],
     amount: &mut [u32],
@@ -42,49 +44,22 @@ fn settle_alone(
     givers: &mut [u32],
 ) -> u32
     requires { ⌜ Faultless (now s) ⌝ }
-    requires { ⌜ (places ≡ placesOf (now s)) × (transitions ≡ transitionsOf (now s)) × (n ≡ eventsOf (now s)) ⌝ }
-    requires { ⌜ p .0 < places ⌝ }
+    requires { ⌜ CountsOf (now s) c ⌝ }
+    requires { ⌜ p .0 < c .places ⌝ }
     requires { ⌜ (length (now pred) ≡ 2048) × Predecessors (planOf (now s)) (now pred) ⌝ }
     requires { ⌜ (65536 ≤ length (now amount)) × (2048 ≤ length (now fed)) × (256 ≤ length (now share)) × HasRow (now givers) 0 ⌝ }
     ensures { λ r. ⌜ ((free : List ℕ) × Judged (netOf (now (s .entry))) (planOf (now (s .entry))) (p .0) (now (pred .entry)) (rows (now (amount .exit)) (now (fed .exit)) free (now (share .exit))) (now (givers .exit)) r) ⌝ }
 {
     let mut order = [0usize; 256];
-    event_order(pred, n, &mut order);
-    let mut free = [0u32; 256];
-    let mut spare = [0u32; 8];
-    let mut takers = [0u32; 8];
-    let mut queue = [0usize; 256];
-    let mut origin = [0usize; 256];
-    let mut via = [0usize; 256];
-    settle_place(
-        s,
-        places,
-        transitions,
-        n,
-        p,
-        pred,
-        &order,
-        amount,
-        fed,
-        &mut free,
-        share,
-        &mut spare,
-        &mut takers,
-        givers,
-        &mut queue,
-        &mut origin,
-        &mut via,
-    )
+    event_order(pred, c.events, &mut order);
+    settle_place(s, c, p, pred, &order, amount, fed, share, givers)
 }
 
 // The missing count of a place of a sheet without fault, in rows that are long enough. The order of the plan is handed in, so that it is
 // worked out once.
 fn judge_known(
     s: &[u8],
-    places: usize,
-    transitions: usize,
-    n: usize,
-    pairs: usize,
+    c: Counts,
     p: Place,
     succ: &[u32],
     pred: &[u32],
@@ -92,10 +67,10 @@ fn judge_known(
     marks: &mut [u8],
 ) -> u32
     requires { ⌜ Faultless (now s) ⌝ }
-    requires { ⌜ (places ≡ placesOf (now s)) × (transitions ≡ transitionsOf (now s)) × (n ≡ eventsOf (now s)) × (pairs ≡ pairsOf (now s)) ⌝ }
-    requires { ⌜ p .0 < places ⌝ }
+    requires { ⌜ CountsOf (now s) c ⌝ }
+    requires { ⌜ p .0 < c .places ⌝ }
     requires { ⌜ OrderRows (planOf (now s)) (now succ) (now pred) ⌝ }
-    requires { ⌜ (pairs + n ≤ length (now flow)) × (n ≤ length (now marks)) ⌝ }
+    requires { ⌜ (c .pairs + c .events ≤ length (now flow)) × (c .events ≤ length (now marks)) ⌝ }
     ensures { λ r. ⌜ r ≡ missing (netOf (now (s .entry))) (planOf (now (s .entry))) (p .0) ⌝ }
     ensures { λ r. ⌜ now (marks .exit) ≡ overwritten (doneMark (netOf (now (s .entry))) (planOf (now (s .entry))) (p .0)) (eventsOf (now (s .entry))) (now (marks .entry)) ⌝ }
     ensures { λ r. ⌜ Written (now (s .entry)) (p .0) (now (flow .entry)) (now (flow .exit)) ⌝ }
@@ -106,9 +81,7 @@ fn judge_known(
     let mut givers = [0u32; 8];
     let m = settle_alone(
         s,
-        places,
-        transitions,
-        n,
+        c,
         p,
         pred,
         &mut amount,
@@ -116,23 +89,8 @@ fn judge_known(
         &mut share,
         &mut givers,
     );
-    hand_back(
-        s,
-        places,
-        transitions,
-        n,
-        pairs,
-        p,
-        succ,
-        pred,
-        &amount,
-        &fed,
-        &share,
-        &givers,
-        m,
-        flow,
-        marks,
-    );
+    hand_flow(s, c, p, succ, pred, &amount, &fed, &share, m, flow);
+    hand_marks(&givers, m, marks, c.events);
     m
 }
 
@@ -149,31 +107,17 @@ pub fn judge_place(s: &[u8], p: Place, flow: &mut [u32], marks: &mut [u8]) -> Ju
     if k != 0 {
         return Judgement::Fault(k);
     }
-    let places = entry_count(s, 0);
-    if places <= p.0 {
+    let c = counts_of(s);
+    if c.places <= p.0 {
         return Judgement::Fault(12);
     }
-    let transitions = entry_count(s, 1);
-    let n = entry_count(s, 2);
-    let pairs = entry_count(s, 3);
-    if flow.len() < pairs + n {
+    if flow.len() < c.pairs + c.events {
         return Judgement::Fault(13);
     }
-    if marks.len() < n {
+    if marks.len() < c.events {
         return Judgement::Fault(13);
     }
-    let m = judge_known(
-        s,
-        places,
-        transitions,
-        n,
-        pairs,
-        p,
-        &succ,
-        &pred,
-        flow,
-        marks,
-    );
+    let m = judge_known(s, c, p, &succ, &pred, flow, marks);
     if m == 0 {
         Judgement::Runs
     } else {

@@ -20,10 +20,10 @@ use Rattle.flowcheck.proofs.add_pairs.Statement.{statement}
 use Rattle.flowcheck.proofs.add_pairs.Tie as tie
 
 abbrev Inv-loop : tie.InvT-loop
-Inv-loop s places transitions events pairs row succ pred into₀ out₀ i₀ into out i = (i ≤ pairs) × (all i (rule4At (planOf s) (flowOf row)) ≡ true) × Carried (planOf s) (flowOf row) i into out
+Inv-loop s c row succ pred into₀ out₀ i₀ i-end into out i = (i ≤ c .pairs) × (all i (rule4At (planOf s) (flowOf row)) ≡ true) × Carried (planOf s) (flowOf row) i into out
 
 abbrev μ-loop : tie.MeasureT-loop
-μ-loop s places transitions events pairs row succ pred into₀ out₀ i₀ into out i = pairs - i
+μ-loop s c row succ pred into₀ out₀ i₀ i-end into out i = c .pairs - i
 
 loop-holds : tie.Need-loop-holds Inv-loop μ-loop
 loop-holds c = (search needs, all-start _, start _ _ _ _ (c .before .before .before .before .before .before .pre .1 .1 .1 .1 .0) (c .before .before .before .before .before .before .pre .1 .1 .1 .1 .1))
@@ -85,7 +85,7 @@ raise-requires-2 : tie.Need-raise-requires-2 Inv-loop μ-loop
 raise-requires-2 c κs = room _ _ _ _ _ (c .before .before .before .before .before .before .before .before .before .before .before .loop .inv .2 .arrive) (few (c .before .before .before .before .before .before .before .before .before .before)) (within (c .before .before .before .before .before .before .before .before) .1) (small (c .before .before .before .before .before .before .before))
 
 add-i : tie.Need-add-i Inv-loop μ-loop
-add-i c = search needs
+add-i c = omega (arith, few (c .before .before .before .before .before .before .before .before .before .before .before .before .before))
 
 loop-less : tie.Need-loop-less Inv-loop μ-loop
 loop-less c = search needs

@@ -4,7 +4,7 @@ use mathlib.Core.Path.{_≡_, sym, _∙_}
 use native.Mathlib.Omega.{arith}
 use denote.Ref.{now}
 use lib.ListN.{length}
-use Rattle.sheet.specs.Table.{placesOf, transitionsOf, eventsOf, pairsOf}
+use Rattle.sheet.specs.Table.{placesOf}
 use Rattle.sheet.specs.Faults.{faultOf}
 use Rattle.sheet.specs.Faultless.{Faultless, faultless}
 use Rattle.calls.specs.FlowRow.{flowLength}
@@ -29,41 +29,28 @@ absent c = sym (c .before .before .before .examine .ensures .0) ∙ c .if1 .left
 known : (c : tie.Else1) → Faultless (now (c .before .before .before .before .before .before .before .before .args .s))
 known c = faultless _ (absent c)
 
--- the place is one of the net
-place : (c : tie.Else2) → c .before .before .before .before .before .before .before .before .before .before .before .args .p .0 < placesOf (now (c .before .before .before .before .before .before .before .before .before .before .before .args .s))
-place c = omega (arith, c .before .before .entry-count .ensures .0, c .if2 .left)
-
--- the counts that were read
-counts : (c : tie.After-entry-count4) → (c .before .before .before .before .before .entry-count .result ≡ placesOf (now (c .before .before .before .before .before .before .before .before .before .before .before .before .before .before .args .s))) × (c .before .before .entry-count2 .result ≡ transitionsOf (now (c .before .before .before .before .before .before .before .before .before .before .before .before .before .before .args .s))) × (c .before .entry-count3 .result ≡ eventsOf (now (c .before .before .before .before .before .before .before .before .before .before .before .before .before .before .args .s))) × (c .entry-count4 .result ≡ pairsOf (now (c .before .before .before .before .before .before .before .before .before .before .before .before .before .before .args .s)))
-counts c = (c .before .before .before .before .before .entry-count .ensures .0, c .before .before .entry-count2 .ensures .0, c .before .entry-count3 .ensures .0, c .entry-count4 .ensures .0)
-
 returns : tie.Need-returns
 returns c = sheet-fault _ _ _ _ (c .before .before .before .examine .ensures .0) (c .if1 .taken)
 
-entry-count-requires : tie.Need-entry-count-requires
-entry-count-requires c κs = (omega arith, known c .laid .limited .table)
+counts-of-requires : tie.Need-counts-of-requires
+counts-of-requires c κs = known c .laid .limited .table
 
 returns-2 : tie.Need-returns-2
-returns-2 c = place-fault _ _ _ (absent (c .before .before .before)) (omega (arith, c .before .before .entry-count .ensures .0, c .if2 .taken))
+returns-2 c = place-fault _ _ _ (absent (c .before .before .before .before)) (omega (arith, c .before .before .before .counts-of .ensures, c .if2 .taken))
 
-entry-count-requires-2 : tie.Need-entry-count-requires-2
-entry-count-requires-2 c κs = (omega arith, known (c .before .before .before) .laid .limited .table)
-
-entry-count-requires-3 : tie.Need-entry-count-requires-3
-entry-count-requires-3 c κs = (omega arith, known (c .before .before .before .before) .laid .limited .table)
-
-entry-count-requires-4 : tie.Need-entry-count-requires-4
-entry-count-requires-4 c κs = (omega arith, known (c .before .before .before .before .before) .laid .limited .table)
+-- the place is one of the net
+place : (c : tie.Else2) → c .before .before .before .before .before .before .before .before .before .before .before .before .args .p .0 < placesOf (now (c .before .before .before .before .before .before .before .before .before .before .before .before .args .s))
+place c = omega (arith, c .before .before .before .counts-of .ensures, c .if2 .left)
 
 add-if3 : tie.Need-add-if3
-add-if3 c = search needs
+add-if3 c = let l = known (c .before .before .before .before .before) .laid .limited in omega (arith, c .before .before .before .before .counts-of .ensures, l .events, l .pairs)
 
 returns-3 : tie.Need-returns-3
-returns-3 c = row-fault _ _ _ (absent (c .before .before .before .before .before .before .before)) (place (c .before .before .before .before)) (omega (arith, counts (c .before), c .if3 .taken))
+returns-3 c = row-fault _ _ _ (absent (c .before .before .before .before .before .before)) (place (c .before .before)) (omega (arith, c .before .before .before .before .before .counts-of .ensures, c .if3 .taken))
 
 -- the row is long enough
-long : (c : tie.Else3) → flowLength (now (c .before .before .before .before .before .before .before .before .before .before .before .before .before .before .before .args .s)) ≤ length (now (c .before .before .before .before .before .before .before .before .before .before .before .before .before .before .before .args .row))
-long c = omega (arith, counts (c .before), c .if3 .left)
+long : (c : tie.Else3) → flowLength (now (c .before .before .before .before .before .before .before .before .before .before .before .before .before .before .args .s)) ≤ length (now (c .before .before .before .before .before .before .before .before .before .before .before .before .before .before .args .row))
+long c = omega (arith, c .before .before .before .before .before .counts-of .ensures, c .if3 .left)
 
 slice-aggregate-is-valid : tie.Need-slice-aggregate-is-valid
 slice-aggregate-is-valid c = search needs
@@ -72,13 +59,13 @@ slice-aggregate-is-valid-2 : tie.Need-slice-aggregate-is-valid-2
 slice-aggregate-is-valid-2 c = search needs
 
 is-valid-requires : tie.Need-is-valid-requires
-is-valid-requires c κs = (known (c .before .before .before .before .before .before .before .before .before), (counts (c .before .before .before), (place (c .before .before .before .before .before .before), (long (c .before .before), c .before .before .before .before .before .before .before .before .before .before .before .before .examine .ensures .1 (c .before .before .before .before .before .before .before .before .before .if1 .left)))))
+is-valid-requires c κs = (known (c .before .before .before .before .before .before .before .before), (c .before .before .before .before .before .before .before .counts-of .ensures, (place (c .before .before .before .before), (long (c .before .before), c .before .before .before .before .before .before .before .before .before .before .before .examine .ensures .1 (c .before .before .before .before .before .before .before .before .if1 .left)))))
 
 returns-4 : tie.Need-returns-4
-returns-4 c = yes-told _ _ _ (absent (c .before .before .before .before .before .before .before .before .before .before .before)) (place (c .before .before .before .before .before .before .before .before)) (long (c .before .before .before .before)) _ (c .before .is-valid .ensures) (c .if4 .taken)
+returns-4 c = yes-told _ _ _ (absent (c .before .before .before .before .before .before .before .before .before .before)) (place (c .before .before .before .before .before .before)) (long (c .before .before .before .before)) _ (c .before .is-valid .ensures) (c .if4 .taken)
 
 returns-5 : tie.Need-returns-5
-returns-5 c = no-told _ _ _ (absent (c .before .before .before .before .before .before .before .before .before .before .before)) (place (c .before .before .before .before .before .before .before .before)) (long (c .before .before .before .before)) _ (c .before .is-valid .ensures) (c .if4 .left)
+returns-5 c = no-told _ _ _ (absent (c .before .before .before .before .before .before .before .before .before .before)) (place (c .before .before .before .before .before .before)) (long (c .before .before .before .before)) _ (c .before .is-valid .ensures) (c .if4 .left)
 
 pub check-flow-spec : {M : Type 1} → statement M
 check-flow-spec =
@@ -88,11 +75,8 @@ check-flow-spec =
     slice-aggregate-examine-2
     examine-requires
     returns
-    entry-count-requires
+    counts-of-requires
     returns-2
-    entry-count-requires-2
-    entry-count-requires-3
-    entry-count-requires-4
     add-if3
     returns-3
     slice-aggregate-is-valid

@@ -17,10 +17,10 @@ use Rattle.flowcheck.proofs.is_balanced.Statement.{statement}
 use Rattle.flowcheck.proofs.is_balanced.Tie as tie
 
 abbrev Inv-loop : tie.InvT-loop
-Inv-loop s places transitions events pairs p row into out v₀ v = (v ≤ events) × (all v (keptAt (netOf s) (planOf s) (p .0) (flowOf row)) ≡ true)
+Inv-loop s c p row into out v₀ v-end v = (v ≤ c .events) × (all v (keptAt (netOf s) (planOf s) (p .0) (flowOf row)) ≡ true)
 
 abbrev μ-loop : tie.MeasureT-loop
-μ-loop s places transitions events pairs p row into out v₀ v = events - v
+μ-loop s c p row into out v₀ v-end v = c .events - v
 
 loop-holds : tie.Need-loop-holds Inv-loop μ-loop
 loop-holds c = (search needs, all-start _)
@@ -41,7 +41,7 @@ gives-requires : tie.Need-gives-requires Inv-loop μ-loop
 gives-requires c κs = let s = c .before .before .before .before .before .before .before .before in (s .pre .0 .laid, (s .pre .1 .0 .0, (named (c .before), omega (arith, s .pre .1 .1 .0))))
 
 -- the counts are within their limits, and the event is one of those
-few : (c : tie.In-loop Inv-loop μ-loop) → (c .before .before .before .before .before .before .args .pairs ≤ 1024) × (c .before .loop .v < 256) × (c .before .before .before .before .before .before .args .pairs + c .before .loop .v < length (now (c .before .before .before .before .before .before .args .row)))
+few : (c : tie.In-loop Inv-loop μ-loop) → (c .before .before .before .before .before .before .args .c .pairs ≤ 1024) × (c .before .loop .v < 256) × (c .before .before .before .before .before .before .args .c .pairs + c .before .loop .v < length (now (c .before .before .before .before .before .before .args .row)))
 few c =
     let s = c .before .before .before .before .before .before in (
       omega (arith, s .pre .0 .laid .limited .pairs),
@@ -50,13 +50,13 @@ few c =
     )
 
 add-wide : tie.Need-add-wide Inv-loop μ-loop
-add-wide c = omega (arith, few (c .before .before .before))
+add-wide c = omega (arith, few (c .before .before .before .before))
 
 mul-wide : tie.Need-mul-wide Inv-loop μ-loop
 mul-wide c = search needs
 
 shared-slice-read-wide : tie.Need-shared-slice-read-wide Inv-loop μ-loop
-shared-slice-read-wide c = omega (arith, few (c .before .before .before .before))
+shared-slice-read-wide c = omega (arith, few (c .before .before .before .before .before))
 
 wide-requires : tie.Need-wide-requires Inv-loop μ-loop
 wide-requires c κs = search needs
@@ -65,7 +65,7 @@ mul-arrived : tie.Need-mul-arrived Inv-loop μ-loop
 mul-arrived c = search needs
 
 shared-slice-read-arrived : tie.Need-shared-slice-read-arrived Inv-loop μ-loop
-shared-slice-read-arrived c = omega (arith, few (c .before .before .before .before .before .before), c .before .before .before .before .before .before .before .before .before .before .before .before .pre .1 .1 .1 .1 .arrive .size)
+shared-slice-read-arrived c = omega (arith, few (c .before .before .before .before .before .before .before), c .before .before .before .before .before .before .before .before .before .before .before .before .before .pre .1 .1 .1 .1 .arrive .size)
 
 -- what the pairs carry into the event and out of it
 carried : (c : tie.In-loop Inv-loop μ-loop) → (getD (now (c .before .before .before .before .before .before .args .into)) (c .before .loop .v) 0 ≤ 4294967295 * 1024) × (getD (now (c .before .before .before .before .before .before .args .out)) (c .before .loop .v) 0 ≤ 4294967295 * 1024)
@@ -76,25 +76,25 @@ carried c =
     (omega (arith, l, s .pre .1 .1 .1 .1 .arrive .most v), omega (arith, l, s .pre .1 .1 .1 .1 .leave .most v))
 
 add-arrived : tie.Need-add-arrived Inv-loop μ-loop
-add-arrived c = omega (arith, carried (c .before .before .before .before .before .before), c .before .wide .ensures .1)
+add-arrived c = omega (arith, carried (c .before .before .before .before .before .before .before), c .before .wide .ensures .1)
 
 mul-keeps : tie.Need-mul-keeps Inv-loop μ-loop
 mul-keeps c = search needs
 
 shared-slice-read-keeps : tie.Need-shared-slice-read-keeps Inv-loop μ-loop
-shared-slice-read-keeps c = omega (arith, few (c .before .before .before .before .before .before .before), c .before .before .before .before .before .before .before .before .before .before .before .before .before .pre .1 .1 .1 .1 .leave .size)
+shared-slice-read-keeps c = omega (arith, few (c .before .before .before .before .before .before .before .before), c .before .before .before .before .before .before .before .before .before .before .before .before .before .before .pre .1 .1 .1 .1 .leave .size)
 
 keeps-requires : tie.Need-keeps-requires Inv-loop μ-loop
-keeps-requires c κs = (omega (arith, carried (c .before .before .before .before .before .before .before), c .before .before .wide .ensures .1), omega (arith, carried (c .before .before .before .before .before .before .before)))
+keeps-requires c κs = (omega (arith, carried (c .before .before .before .before .before .before .before .before), c .before .before .wide .ensures .1), omega (arith, carried (c .before .before .before .before .before .before .before .before)))
 
 -- what was told is rules 1 and 2 at the event
-told : (c : tie.After-keeps Inv-loop μ-loop) → c .keeps .result ≡ keptAt (netOf (now (c .before .before .before .before .before .before .before .before .before .before .before .before .before .before .args .s))) (planOf (now (c .before .before .before .before .before .before .before .before .before .before .before .before .before .before .args .s))) (c .before .before .before .before .before .before .before .before .before .before .before .before .before .before .args .p .0) (flowOf (now (c .before .before .before .before .before .before .before .before .before .before .before .before .before .before .args .row))) (c .before .before .before .before .before .before .before .before .before .loop .v)
+told : (c : tie.After-keeps Inv-loop μ-loop) → c .keeps .result ≡ keptAt (netOf (now (c .before .before .before .before .before .before .before .before .before .before .before .before .before .before .before .args .s))) (planOf (now (c .before .before .before .before .before .before .before .before .before .before .before .before .before .before .before .args .s))) (c .before .before .before .before .before .before .before .before .before .before .before .before .before .before .before .args .p .0) (flowOf (now (c .before .before .before .before .before .before .before .before .before .before .before .before .before .before .before .args .row))) (c .before .before .before .before .before .before .before .before .before .before .loop .v)
 told c =
-    let s = c .before .before .before .before .before .before .before .before .before .before .before .before .before .before in
-    kept-told (now (s .args .s)) (s .args .p .0) (now (s .args .row)) _ _ (c .before .before .before .before .before .before .before .before .before .loop .v) (s .pre .1 .1 .1 .1) _ _ _ _ _ _ (s .pre .1 .0 .3) (c .before .before .before .before .before .before .before .label .ensures) (c .before .before .before .before .before .before .takes .ensures) (c .before .before .before .before .before .gives .ensures) (c .before .before .before .wide .ensures .0) (c .keeps .ensures)
+    let s = c .before .before .before .before .before .before .before .before .before .before .before .before .before .before .before in
+    kept-told (now (s .args .s)) (s .args .p .0) (now (s .args .row)) _ _ (c .before .before .before .before .before .before .before .before .before .before .loop .v) (s .pre .1 .1 .1 .1) _ _ _ _ _ _ (s .pre .1 .0 .3) (c .before .before .before .before .before .before .before .before .label .ensures) (c .before .before .before .before .before .before .before .takes .ensures) (c .before .before .before .before .before .before .gives .ensures) (c .before .before .before .wide .ensures .0) (c .keeps .ensures)
 
 returns : tie.Need-returns Inv-loop μ-loop
-returns c = all-broken _ _ _ _ (c .before .before .before .before .before .before .before .before .before .before .before .before .before .before .before .pre .1 .0 .2) (c .before .before .before .before .before .before .before .before .before .loop-test .taken) (sym (told (c .before)) ∙ not-true _ (c .if1 .taken)) ∙ kept-rules _ _ _ _
+returns c = all-broken _ _ _ _ (c .before .before .before .before .before .before .before .before .before .before .before .before .before .before .before .before .pre .1 .0 .2) (c .before .before .before .before .before .before .before .before .before .before .loop-test .taken) (sym (told (c .before)) ∙ not-true _ (c .if1 .taken)) ∙ kept-rules _ _ _ _
 
 add-v : tie.Need-add-v Inv-loop μ-loop
 add-v c = search needs
@@ -103,7 +103,7 @@ loop-less : tie.Need-loop-less Inv-loop μ-loop
 loop-less c = search needs
 
 loop-again : tie.Need-loop-again Inv-loop μ-loop
-loop-again c = (search needs, all-more _ _ (c .before .before .before .before .before .before .before .before .before .before .loop .inv .1) (sym (told (c .before)) ∙ not-false _ (c .if1 .left)))
+loop-again c = (search needs, all-more _ _ (c .before .before .before .before .before .before .before .before .before .before .before .loop .inv .1) (sym (told (c .before)) ∙ not-false _ (c .if1 .left)))
 
 returns-2 : tie.Need-returns-2 Inv-loop μ-loop
 returns-2 c = all-done _ _ _ _ (c .before .before .before .before .before .before .pre .1 .0 .2) (c .before .loop .inv .0) (c .loop-test .left) (c .before .loop .inv .1) ∙ kept-rules _ _ _ _

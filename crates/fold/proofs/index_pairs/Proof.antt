@@ -16,11 +16,11 @@ use Rattle.fold.proofs.index_pairs.Statement.{statement}
 use Rattle.fold.proofs.index_pairs.Tie as tie
 
 abbrev Inv-loop : tie.InvT-loop
-Inv-loop s places transitions events pairs succ pred skel₀ index₀ i₀ skel index i =
-    (i ≤ pairs) × (length index ≡ length index₀) × Linked (planOf s) i skel index
+Inv-loop s c succ pred skel₀ index₀ i₀ i-end skel index i =
+    (i ≤ c .pairs) × (length index ≡ length index₀) × Linked (planOf s) i skel index
 
 abbrev μ-loop : tie.MeasureT-loop
-μ-loop s places transitions events pairs succ pred skel₀ index₀ i₀ skel index i = pairs - i
+μ-loop s c succ pred skel₀ index₀ i₀ i-end skel index i = c .pairs - i
 
 loop-holds : tie.Need-loop-holds Inv-loop μ-loop
 loop-holds c = let s = c .before .before .before .before .before in (zero-le, refl, start (planOf (s .args .s .now)) (s .args .skel .now) (s .args .index .now) (s .pre .1 .1 .1 .0) (s .pre .1 .1 .1 .1))
@@ -83,7 +83,7 @@ loop-again c =
     let l = d .before .before .before .before .loop in
     let a = d .before .before .earlier in
     let b = d .before .later in
-    let next : l .i + 1 ≤ s .args .pairs = omega (arith, d .before .before .before .loop-test .taken) in
+    let next : l .i + 1 ≤ s .args .c .pairs = omega (arith, d .before .before .before .loop-test .taken) in
     ⊎-elim
     (λ w. (
       next,

@@ -1,4 +1,4 @@
--- `place_judgement::settle_alone` meets its contract: the working rows are long enough.
+-- `place_judgement::settle_alone` meets its contract: the order has room for every event.
 use native.Mathlib.Omega.{arith}
 use borrow.Author.Needs.{needs}
 use Rattle.place_judgement.proofs.Room.{room}
@@ -14,43 +14,10 @@ event-order-requires c κs = search needs
 slice-aggregate-settle-place : tie.Need-slice-aggregate-settle-place
 slice-aggregate-settle-place c = search needs
 
-slice-aggregate-settle-place-2 : tie.Need-slice-aggregate-settle-place-2
-slice-aggregate-settle-place-2 c = search needs
-
-slice-aggregate-settle-place-3 : tie.Need-slice-aggregate-settle-place-3
-slice-aggregate-settle-place-3 c = search needs
-
-slice-aggregate-settle-place-4 : tie.Need-slice-aggregate-settle-place-4
-slice-aggregate-settle-place-4 c = search needs
-
-slice-aggregate-settle-place-5 : tie.Need-slice-aggregate-settle-place-5
-slice-aggregate-settle-place-5 c = search needs
-
-slice-aggregate-settle-place-6 : tie.Need-slice-aggregate-settle-place-6
-slice-aggregate-settle-place-6 c = search needs
-
-slice-aggregate-settle-place-7 : tie.Need-slice-aggregate-settle-place-7
-slice-aggregate-settle-place-7 c = search needs
-
 settle-place-requires : tie.Need-settle-place-requires
 settle-place-requires c κs =
-    let h = c .before .before .before .before .before .before .before .before .before .before .before .before .before .before .before .before .before .before .before .before .pre in
-    let long = h .1 .1 .1 .1 in (
-      h .0,
-      (
-        h .1 .0,
-        (
-          h .1 .1 .0,
-          (
-            (omega (arith, c .before .before .before .before .before .before .before .before .before .before .before .before .event-order .kept .1 .1 .0), h .1 .1 .1 .0 .0, h .1 .1 .1 .0 .1),
-            (
-              record { amounts = long .0; marks = long .1; frees = room 256; shares = long .2 },
-              (room 8, record { for-takers = room 8; for-givers = long .3; for-queue = room 256; for-origin = room 256; for-via = room 256 }),
-            ),
-          ),
-        ),
-      ),
-    )
+    let h = c .before .before .before .before .before .before .before .before .before .before .before .before .before .before .pre in
+    (h .0, (h .1 .0, (h .1 .1 .0, ((omega (arith, c .before .before .before .before .before .before .event-order .kept .1 .1 .0, room 256), h .1 .1 .1 .0 .0, h .1 .1 .1 .0 .1), h .1 .1 .1 .1))))
 
 same-length : tie.Need-same-length
 same-length c = search needs
@@ -74,12 +41,6 @@ settle-alone-spec =
     slice-aggregate-event-order
     event-order-requires
     slice-aggregate-settle-place
-    slice-aggregate-settle-place-2
-    slice-aggregate-settle-place-3
-    slice-aggregate-settle-place-4
-    slice-aggregate-settle-place-5
-    slice-aggregate-settle-place-6
-    slice-aggregate-settle-place-7
     settle-place-requires
     same-length
     same-length-2
