@@ -186,6 +186,24 @@ pub sum-more : (n : ℕ) (f : ℕ → ℕ) → sum (n + 1) f ≡ sum n f + f n
 unfolding sum
 sum-more n f = rw add-one refl
 
+pub sum-of-start : (xs : List ℕ) → sumOf xs 0 ≡ 0
+unfolding sumOf
+sum-of-start xs = sum-start _
+
+pub sum-of-more : (xs : List ℕ) (i : ℕ) → sumOf xs (i + 1) ≡ sumOf xs i + getD xs i 0
+unfolding sumOf
+sum-of-more xs i = sum-more i (λ k. getD xs k 0)
+
+pub sum-of-upto : (xs : List ℕ) (k n : ℕ) → k ≤ n → sumOf xs k ≤ sumOf xs n
+unfolding sumOf sum
+sum-of-upto xs k zero l =
+    ⊎-elim (λ e. omega (arith, ap (λ (z : ℕ). sumOf xs z) e)) (λ h. absurd (not-suc-le-zero h)) (eq-or-lt-of-le l)
+sum-of-upto xs k (suc n) l =
+    ⊎-elim
+    (λ e. omega (arith, ap (λ (z : ℕ). sumOf xs z) e))
+    (λ h. omega (arith, sum-of-upto xs k n (omega (arith, h))))
+    (eq-or-lt-of-le l)
+
 pub end-start : (e x : ℕ → ℕ) (v : ℕ) → atEnd 0 e x v ≡ 0
 unfolding atEnd
 end-start e x v = sum-start _

@@ -2,6 +2,7 @@
 use Prim.Native.Nat.{ℕ, _+_, _-_, _≤_, _<_}
 use native.Mathlib.Omega.{arith}
 use mathlib.Core.List.{List}
+use mathlib.Core.Logic.{⊎-elim}
 use mathlib.Core.Path.{_≡_, sym, ap, subst, _∙_}
 use lib.ListN.{length, getD}
 use Rattle.finite.specs.Sum.{sum, sumOf}
@@ -13,9 +14,9 @@ use Rattle.sheet.specs.Faultless.{Faultless, sound}
 use Rattle.tokenflow.specs.Rows.{Rows}
 use Rattle.tokenflow.specs.Flowing.{Flowing, Kept, lacking, takenIn}
 use Rattle.drawing.specs.Moves.{Moved, Order}
-use Rattle.settle.specs.Finished.{Finished}
+use Rattle.settle.specs.Finished.{Finished, Ended}
 use Rattle.place.specs.Small.{Small}
-use Rattle.place.specs.Settled.{Judged, place-missing, place-smallest, rows-flow}
+use Rattle.place.specs.Settled.{Judged, place-covered, place-missing, place-smallest, rows-flow}
 use Rattle.place.specs.Start.{Start, start-flows, start-takes}
 
 module _ (s : List ℕ) (known : Faultless s) (p : ℕ) (place : p < placesOf s) (pred : List ℕ) (n : ℕ) (all : n ≡ eventsOf s) (r₀ : Rows) (start : Start (netOf s) (planOf s) p r₀) where
@@ -41,19 +42,26 @@ module _ (s : List ℕ) (known : Faultless s) (p : ℕ) (place : p < placesOf s)
               omega (arith, moved .kept .takes i l, subst (λ (z : ℕ). takenIn z r₀ i ≡ takenBy (netOf s) (planOf s) p i) (sym all) (start-takes (netOf s) (planOf s) p r₀ start i k), known .takes (labelAt s i) p (known .labels i k) place);
         }
 
-    pub judged : Predecessors (planOf s) pred → (takers givers : List ℕ) → Finished n pred r takers givers → (lacks opens m : ℕ) → lacks ≡ sumOf (r .share) n → opens ≡ openingAt s p → m ≡ lacks - opens
+    pub judged : Predecessors (planOf s) pred → (givers : List ℕ) (lacks opens m : ℕ) → Ended n pred opens r givers → lacks ≡ sumOf (r .share) n → opens ≡ openingAt s p → m ≡ lacks - opens
         → Judged (netOf s) (planOf s) p pred r givers m
     unfolding lacking sumOf
-    judged before takers givers done lacks opens m sums opening above =
+    judged before givers lacks opens m ended sums opening above =
         let f = subst (λ (k : ℕ). Flowing k pred r) all (moved .flows) in
         let k = subst (λ (k : ℕ). Kept k r₀ r) all (moved .kept) in
-        let d = subst (λ (k : ℕ). Finished k pred r takers givers) all done in
-        let e : m ≡ lacking (eventsOf s) r - openingAt s p = omega (arith, sums, opening, above, ap (λ (z : ℕ). sum z (λ i. getD (r .share) i 0)) all) in
-        let c = place-missing (netOf s) (planOf s) p (sound s known) pred before r₀ r start f k takers givers d in
+        let flow = rows-flow (netOf s) (planOf s) p (sound s known) pred before r₀ r start f k in
+        let all-events = ap (λ (z : ℕ). sum z (λ i. getD (r .share) i 0)) all in
+        let e : m ≡ lacking (eventsOf s) r - openingAt s p = omega (arith, sums, opening, above, all-events) in
+        ⊎-elim
+        (λ covered.
+        let none = place-covered (netOf s) (planOf s) p (sound s known) pred before r₀ r start f k (omega (arith, covered, opening, all-events)) in
+        record { count = omega (arith, sums, above, covered, none); lacks = e; flows = f; flow = flow; set = λ short. absurd (omega (arith, short, none)) })
+        (λ last.
+        let d = subst (λ (k : ℕ). Finished k pred r (last .0) givers) all (last .1) in
         record {
-          count = e ∙ sym c;
+          count = e ∙ sym (place-missing (netOf s) (planOf s) p (sound s known) pred before r₀ r start f k (last .0) givers d);
           lacks = e;
           flows = f;
-          flow = rows-flow (netOf s) (planOf s) p (sound s known) pred before r₀ r start f k;
-          set = place-smallest (netOf s) (planOf s) p (sound s known) pred before r₀ r start f k takers givers d;
-        }
+          flow = flow;
+          set = place-smallest (netOf s) (planOf s) p (sound s known) pred before r₀ r start f k (last .0) givers d;
+        })
+        ended

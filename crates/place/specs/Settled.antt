@@ -1,4 +1,5 @@
--- When the rows are settled, what the takers lack tells the missing count, and the givers met are the smallest done set.
+-- When the rows are settled, what the takers lack tells the missing count, and the givers met are the smallest done set if something is
+-- missing.
 use Prim.Native.Nat.{ℕ, _+_, _-_, _*_, _≤_, _<_}
 use native.Mathlib.Omega.{arith}
 use mathlib.Core.Bool.{Bool, true, false, not}
@@ -15,7 +16,7 @@ use Rattle.plan.specs.Net.{Net, Plan, takenBy, givenBy}
 use Rattle.plan.specs.Order.{Before, Sound}
 use Rattle.plan.specs.Prefix.{missing, smallest}
 use Rattle.theory.specs.Skeleton.{before-earlier}
-use Rattle.theory.specs.Tokenflow.{Tokenflow, Settled, settled-missing, settled-smallest}
+use Rattle.theory.specs.Tokenflow.{Tokenflow, Settled, missing-within, settled-missing, settled-smallest}
 use Rattle.tokenflow.specs.Rows.{fedBy, Rows}
 use Rattle.tokenflow.specs.Flowing.{Flowing, Kept, givenIn, takenIn, lacking}
 use Rattle.closure.specs.PlanRows.{Predecessors}
@@ -44,6 +45,12 @@ module _ (N : Net) (P : Plan) (p : ℕ) (S : Sound P) (pred : List ℕ) (before 
         takes = λ w l. sym (k .takes w l) ∙ start-takes N P p r₀ s w l;
         ordered = λ u w lu lw h. before .marks w u lw lu .0 (f .ordered u w (omega (arith, f .events)) (omega (arith, f .events)) (is-marked u w h));
       }
+
+  -- Nothing is missing where the opening count covers what the takers lack.
+  pub place-covered : lacking (P .events) r ≤ N .opening p → missing N P p ≡ 0
+  unfolding lacking
+  place-covered l =
+      omega (arith, l, missing-within N P p S y (λ u. getD (r .free) u 0) (λ w. getD (r .share) w 0) rows-flow)
 
   module _ (takers givers : List ℕ) (d : Finished (P .events) pred r takers givers) where
     rows-settled : Settled P y (λ u. getD (r .free) u 0) (λ w. getD (r .share) w 0) (members takers) (members givers)

@@ -14,7 +14,7 @@ ghost use Rattle.tokenflow.specs.Rows.{rows, Sized};
 ghost use Rattle.tokenflow.specs.Flowing.{Flowing};
 ghost use Rattle.drawing.specs.Moves.{Moved, Order};
 ghost use Rattle.closure.specs.PlanRows.{Predecessors};
-ghost use Rattle.settle.specs.Finished.{Finished};
+ghost use Rattle.settle.specs.Finished.{Ended};
 ghost use Rattle.place.specs.Small.{Small};
 ghost use Rattle.place.specs.Start.{Start};
 ghost use Rattle.place.specs.Settled.{Judged};
@@ -108,6 +108,7 @@ fn run(
     free: &mut [u32],
     share: &mut [u32],
     givers: &mut [u32],
+    opens: u32,
     n: usize,
 )
     requires { ⌜ Flowing n (now pred) (rows (now amount) (now fed) (now free) (now share)) ⌝ }
@@ -115,11 +116,11 @@ fn run(
     requires { ⌜ n ≤ length (now order) ⌝ }
     requires { ⌜ HasRow (now givers) 0 ⌝ }
     ensures { λ _. ⌜ Moved n (now (pred .entry)) (rows (now (amount .entry)) (now (fed .entry)) (now (free .entry)) (now (share .entry))) (rows (now (amount .exit)) (now (fed .exit)) (now (free .exit)) (now (share .exit))) ⌝ }
-    ensures { λ _. ⌜ ((takers : List ℕ) × Finished n (now (pred .entry)) (rows (now (amount .exit)) (now (fed .exit)) (now (free .exit)) (now (share .exit))) takers (now (givers .exit))) ⌝ }
+    ensures { λ _. ⌜ Ended n (now (pred .entry)) opens (rows (now (amount .exit)) (now (fed .exit)) (now (free .exit)) (now (share .exit))) (now (givers .exit)) ⌝ }
 {
     let mut spare = [4294967295u32; 8];
     draw_all(pred, order, amount, fed, free, share, &mut spare, n);
-    settle(pred, amount, fed, free, share, givers, n);
+    settle(pred, amount, fed, free, share, givers, opens, n);
 }
 
 // What is lacking above the opening count.
@@ -148,10 +149,10 @@ pub fn settle_place(
     requires { ⌜ (65536 ≤ length (now amount)) × (2048 ≤ length (now fed)) × (256 ≤ length (now share)) × HasRow (now givers) 0 ⌝ }
     ensures { λ r. ⌜ ((free : List ℕ) × Judged (netOf (now (s .entry))) (planOf (now (s .entry))) (p .0) (now (pred .entry)) (rows (now (amount .exit)) (now (fed .exit)) free (now (share .exit))) (now (givers .exit)) r) ⌝ }
 {
+    let n = c.events;
+    let opens = opening(s, p);
     let mut free = [0u32; 256];
     prepare(s, c, p, amount, fed, &mut free, share);
-    run(pred, order, amount, fed, &mut free, share, givers, c.events);
-    let lacks = total(share, c.events);
-    let opens = opening(s, p);
-    above(lacks, opens)
+    run(pred, order, amount, fed, &mut free, share, givers, opens, n);
+    above(total(share, n), opens)
 }

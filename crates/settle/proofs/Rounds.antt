@@ -5,8 +5,10 @@ use mathlib.Core.Bool.{Bool, true, false}
 use mathlib.Core.List.{List}
 use mathlib.Core.Logic.{⊎-elim}
 use mathlib.Core.Path.{_≡_, sym, subst}
+use lib.Dec.{leb, leb→le, T}
 use lib.ListN.{getD}
 use native.Mathlib.Nat.{eq-zero-or-pos}
+use Rattle.finite.specs.Sum.{sumOf}
 use Rattle.marks.specs.Marks.{marked}
 use Rattle.tokenflow.specs.Rows.{Rows}
 use Rattle.tokenflow.specs.Flowing.{Flowing, lacking}
@@ -65,3 +67,8 @@ pub rounded : (n : ℕ) (pred : List ℕ) (r r′ : Rows) (t : Takers) (g : Give
 rounded n pred r r′ t g true s a = a (t .row) (t .tail) s
 rounded n pred r r′ t g false s a =
     subst (λ (x : Rows). Finished n pred x (t .row) (g .row)) (sym (a .0)) (finish n pred r t g s (a .1))
+
+-- what a test says of the shares, it says of what is lacking
+pub covered : (n opens : ℕ) (r : Rows) (b : Bool) → b ≡ leb (sumOf (r .share) n) opens → b ≡ true → lacking n r ≤ opens
+unfolding lacking sumOf
+covered n opens r b said is = leb→le (sumOf (r .share) n) opens (subst T said (subst T (sym is) tt))

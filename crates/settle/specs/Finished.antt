@@ -1,7 +1,8 @@
 -- When a search is the last: the takers and givers reached are closed and least, and no giver has tokens free.
-use Prim.Native.Nat.{ℕ, _<_}
+use Prim.Native.Nat.{ℕ, _<_, _≤_}
 use mathlib.Core.Bool.{Bool, true, false}
 use mathlib.Core.List.{List}
+use mathlib.Core.Logic.{_⊎_}
 use mathlib.Core.Path.{_≡_}
 use lib.Dec.{T}
 use lib.ListN.{getD}
@@ -20,6 +21,10 @@ pub record Finished (n : ℕ) (pred : List ℕ) (r : Rows) (takers givers : List
   pub closed : Closed pred (r .fed) (r .share) n (members takers) (members givers)
   pub least : (W E : Set) → Closed pred (r .fed) (r .share) n W E → (u : ℕ) → In givers u → T (E u)
   pub spent : (u : ℕ) → In givers u → getD (r .free) u 0 ≡ 0
+
+-- What settling comes to: the opening count covers what is lacking, so that nothing is missing, or the search was the last.
+abbrev pub Ended : ℕ → List ℕ → ℕ → Rows → List ℕ → Type 0
+Ended n pred opens r givers = (lacking n r ≤ opens) ⊎ ((takers : List ℕ) × Finished n pred r takers givers)
 
 -- A giver that was met and has tokens free.
 pub record HasFree (givers free : List ℕ) (n u : ℕ) : Type 0 where

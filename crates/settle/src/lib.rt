@@ -1,7 +1,9 @@
 // Settles a place: searches and moves tokens by turns, until no giver that a taker could draw on has tokens free.
-ghost use Prim.Native.Nat.{ℕ, _<_, _≤_};
-ghost use mathlib.Core.List.{List};
+ghost use Prim.Native.Nat.{_<_, _≤_};
+ghost use mathlib.Core.Path.{_≡_};
+ghost use lib.Dec.{leb};
 ghost use lib.ListN.{length};
+ghost use Rattle.finite.specs.Sum.{sumOf};
 ghost use Rattle.marks.specs.Marks.{HasRow};
 ghost use Rattle.marks.specs.Search.{Tells};
 ghost use Rattle.tokenflow.specs.Rows.{rows};
@@ -9,7 +11,7 @@ ghost use Rattle.tokenflow.specs.Flowing.{Flowing};
 ghost use Rattle.drawing.specs.Moves.{Moved, Order};
 ghost use Rattle.search.specs.Searched.{Room};
 ghost use Rattle.exchange.specs.Walk.{trailRows};
-ghost use Rattle.settle.specs.Finished.{Advanced, Finished, FreeSaid, HasFree, Rounded};
+ghost use Rattle.settle.specs.Finished.{Advanced, Ended, FreeSaid, HasFree, Rounded};
 use exchange::walk;
 use marks::Found;
 use push::push;
@@ -122,7 +124,22 @@ fn round(
     )
 }
 
-// Rounds until the search is the last. Each but that one leaves less lacking. Where a search starts it writes no origin; 256 stays
+// Whether the opening count covers what the takers lack.
+fn is_covered(share: &[u32], n: usize, opens: u32) -> bool
+    requires { ⌜ n ≤ length (now share) ⌝ }
+    ensures { λ r. ⌜ r ≡ leb (sumOf (now (share .entry)) n) opens ⌝ }
+{
+    let mut left = opens;
+    for w in 0..n {
+        if share[w] > left {
+            return false;
+        }
+        left -= share[w];
+    }
+    true
+}
+
+// Rounds until the opening count covers what is lacking or the search is the last. Each but that one leaves less lacking. Where a search starts it writes no origin; 256 stays
 // there, which names no event, since later searches start at no more takers.
 pub fn settle(
     pred: &[u32],
@@ -131,19 +148,20 @@ pub fn settle(
     free: &mut [u32],
     share: &mut [u32],
     givers: &mut [u32],
+    opens: u32,
     n: usize,
 )
     requires { ⌜ Flowing n (now pred) (rows (now amount) (now fed) (now free) (now share)) ⌝ }
     requires { ⌜ Order n (now pred) ⌝ }
     requires { ⌜ HasRow (now givers) 0 ⌝ }
     ensures { λ _. ⌜ Moved n (now (pred .entry)) (rows (now (amount .entry)) (now (fed .entry)) (now (free .entry)) (now (share .entry))) (rows (now (amount .exit)) (now (fed .exit)) (now (free .exit)) (now (share .exit))) ⌝ }
-    ensures { λ _. ⌜ ((takers : List ℕ) × Finished n (now (pred .entry)) (rows (now (amount .exit)) (now (fed .exit)) (now (free .exit)) (now (share .exit))) takers (now (givers .exit))) ⌝ }
+    ensures { λ _. ⌜ Ended n (now (pred .entry)) opens (rows (now (amount .exit)) (now (fed .exit)) (now (free .exit)) (now (share .exit))) (now (givers .exit)) ⌝ }
 {
     let mut takers = [0u32; 8];
     let mut queue = [0usize; 256];
     let mut origin = [256usize; 256];
     let mut via = [0usize; 256];
-    loop {
+    while !is_covered(share, n, opens) {
         if !round(
             pred,
             amount,

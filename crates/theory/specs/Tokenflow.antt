@@ -127,6 +127,11 @@ module _ (N : Net) (P : Plan) (p : ℕ) (S : Sound P) (y : ℕ → ℕ → ℕ) 
           in-it true x l e = tt
           in-it false x l e = absurd (lt-irrefl 0 (subst (λ (z : ℕ). 0 < z) (sym e) l))
 
+  -- No more is missing than the shares come to above the opening count.
+  pub missing-within : missing N P p ≤ sum (P .events) share - N .opening p
+  unfolding supply
+  missing-within = let w = missing-attained N P p S in omega (arith, w .2, duality (w .0) (w .1))
+
   module _ (U D : Set) (s : Settled P y free share U D) where
     -- the givers seen are a done set, and the takers seen are in it or in its front
     before-taker : (u : ℕ) → T (D u) → T (preset P U u)
@@ -193,11 +198,7 @@ module _ (N : Net) (P : Plan) (p : ℕ) (S : Sound P) (y : ℕ → ℕ → ℕ) 
     -- The missing count is what the shares come to above the opening count.
     pub settled-missing : missing N P p ≡ sum (P .events) share - N .opening p
     unfolding supply
-    settled-missing =
-        let w = missing-attained N P p S in
-        le-antisymm
-        (omega (arith, w .2, duality (w .0) (w .1)))
-        (omega (arith, missing-bounds N P p S D seen-prefix, seen-full))
+    settled-missing = le-antisymm missing-within (omega (arith, missing-bounds N P p S D seen-prefix, seen-full))
 
     -- Where something is missing, the givers seen are the smallest done set of the greatest lack.
     pub settled-smallest : 0 < missing N P p → smallest N P p ≡ D

@@ -3,8 +3,7 @@ use Prim.Native.Nat.{_-_, _*_, _≤_, zero-le}
 use native.Mathlib.Omega.{arith}
 use mathlib.Core.Path.{_≡_, sym, ap, _∙_}
 use borrow.Author.Needs.{needs}
-use Rattle.finite.specs.Sum.{sumOf}
-use Rattle.place.proofs.Rows.{sum-none, sum-one-more}
+use Rattle.finite.specs.Sum.{sumOf, sum-of-start, sum-of-more}
 use Rattle.place.proofs.total.Statement.{statement}
 use Rattle.place.proofs.total.Tie as tie
 
@@ -15,7 +14,7 @@ abbrev μ-loop : tie.MeasureT-loop
 μ-loop row n sum₀ i₀ sum i = n - i
 
 loop-holds : tie.Need-loop-holds Inv-loop μ-loop
-loop-holds c = (zero-le, sym (sum-none _), zero-le)
+loop-holds c = (zero-le, sym (sum-of-start _), zero-le)
 
 mul-sum : tie.Need-mul-sum Inv-loop μ-loop
 mul-sum c = search needs
@@ -36,7 +35,7 @@ loop-again : tie.Need-loop-again Inv-loop μ-loop
 loop-again c =
     let s = c .before .before .before in
     let l = c .before .before .loop in
-    (omega arith, omega (arith, l .inv .1, sum-one-more (s .args .row .now) (l .i)), omega (arith, s .pre .1 .most (l .i) (omega arith)))
+    (omega arith, omega (arith, l .inv .1, sum-of-more (s .args .row .now) (l .i)), omega (arith, s .pre .1 .most (l .i) (omega arith)))
 
 returns : tie.Need-returns Inv-loop μ-loop
 returns c = let l = c .before .loop in l .inv .1 ∙ ap (sumOf (c .before .before .args .row .now)) (omega arith)
