@@ -16,7 +16,7 @@ use levels::set_levels;
 use levels::unmark_spent;
 use marks::Found;
 
-// A giver of a level with tokens free feeds the taker w in place of v. If none is before w, that loses its mark in `within`.
+// A giver of a level with tokens free feeds the taker w in place of v. If none is before w, w loses its mark in `within`.
 fn pull_by(
     pred: &[u32],
     sets: &mut [u32],

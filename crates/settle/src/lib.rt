@@ -1,4 +1,5 @@
-// Settles a place: searches and moves tokens by turns, until no giver that a taker could draw on has tokens free.
+// Settles a place: searches and moves tokens by turns, until the opening count covers what is lacking or no giver that a taker could draw
+// on has tokens free.
 ghost use Prim.Native.Nat.{_<_, _≤_};
 ghost use mathlib.Core.Path.{_≡_};
 ghost use lib.Dec.{leb};
@@ -139,8 +140,8 @@ fn is_covered(share: &[u32], n: usize, opens: u32) -> bool
     true
 }
 
-// Rounds until the opening count covers what is lacking or the search is the last. Each but that one leaves less lacking. Where a search starts it writes no origin; 256 stays
-// there, which names no event, since later searches start at no more takers.
+// Rounds until the opening count covers what is lacking or the search is the last. Each but that one leaves less lacking. Where a search
+// starts it writes no origin; 256 stays there, which names no event, since later searches start at no more takers.
 pub fn settle(
     pred: &[u32],
     amount: &mut [u32],

@@ -17,7 +17,7 @@ settle-place-requires : tie.Need-settle-place-requires
 settle-place-requires c κs =
     let h = c .before .before .before .before .before .before .before .before .before .before .pre in
     let r = h .1 .1 .1 .0 in
-    (h .0, (h .1 .0, (h .1 .1 .1 .1 .0, (h .1 .1 .0, (r .0, r .1, omega (arith, length-replicate {A = ℕ} 256 0), omega (arith, length-replicate {A = ℕ} 8 0))))))
+    (h .0, (h .1 .0, (omega (arith, h .1 .1 .1 .1 .0), (h .1 .1 .0, (r .0, r .1, omega (arith, length-replicate {A = ℕ} 256 0), omega (arith, length-replicate {A = ℕ} 8 0))))))
 
 mul-row : tie.Need-mul-row
 mul-row c = search needs
