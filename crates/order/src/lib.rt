@@ -1,10 +1,9 @@
 // Faults 10 and 11, and the order of a sheet's plan in rows of marks. Faults 1 to 4 and 8 are absent.
 ghost use mathlib.Core.Path.{_≡_};
 ghost use mathlib.Core.Bool.{false};
-ghost use lib.ListN.{drop};
 ghost use Rattle.sheet.specs.Table.{placesOf, transitionsOf, eventsOf, pairsOf};
 ghost use Rattle.sheet.specs.Items.{planOf};
-ghost use Rattle.sheet.specs.Faults.{noEvent, repeated, contentFaults, firstFault};
+ghost use Rattle.sheet.specs.Faults.{noEvent, repeated, orderFaults, firstFault};
 ghost use Rattle.sheet.specs.Laid.{Laid};
 ghost use Rattle.order.specs.Rows.{Blank, PairsMarked, OrderRows};
 use closure::close;
@@ -57,7 +56,7 @@ pub fn order_fault(
     requires { ⌜ (places ≡ placesOf (now s)) × (transitions ≡ transitionsOf (now s)) × (events ≡ eventsOf (now s)) × (pairs ≡ pairsOf (now s)) ⌝ }
     requires { ⌜ noEvent (now s) ≡ false ⌝ }
     requires { ⌜ Blank (now succ) × Blank (now pred) ⌝ }
-    ensures { λ r. ⌜ r ≡ firstFault (drop 5 contentFaults) (now (s .entry)) ⌝ }
+    ensures { λ r. ⌜ r ≡ firstFault orderFaults (now (s .entry)) ⌝ }
     ensures { λ r. ⌜ (r ≡ 0 → OrderRows (planOf (now (s .entry))) (now (succ .exit)) (now (pred .exit))) ⌝ }
 {
     if mark_pairs(s, places, transitions, events, pairs, succ, pred) {

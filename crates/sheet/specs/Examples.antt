@@ -9,7 +9,7 @@ use Rattle.finite.specs.Bounded.{any}
 use Rattle.plan.specs.Order.{before, beforeBy}
 use Rattle.sheet.specs.Table.{start, count, limit, itemLength, item, bodyEnd, due}
 use Rattle.sheet.specs.Items.{openingAt, takesAt, givesAt, labelAt, earlierAt, laterAt, netOf, planOf}
-use Rattle.sheet.specs.Faults.{tooShort, overLimitAt, overLimit, misplacedAt, misplaced, wrongEnd, overOpeningAt, overOpening, overWeightAt, overWeightIn, overWeight, noTransitionAt, noTransition, noEventAt, noEvent, selfPairAt, selfPair, samePair, repeatAt, repeated, cycleAt, cyclic, layoutFaults, contentFaults, faults, firstFault, faultOf}
+use Rattle.sheet.specs.Faults.{tooShort, overLimitAt, overLimit, misplacedAt, misplaced, wrongEnd, overOpeningAt, overOpening, overWeightAt, overWeightIn, overWeight, noTransitionAt, noTransition, noEventAt, noEvent, selfPairAt, selfPair, samePair, repeatAt, repeated, cycleAt, cyclic, layoutFaults, itemFaults, orderFaults, contentFaults, faults, firstFault, faultOf}
 
 -- a table of four entries, of numbers below 256: each start and count
 table : ℕ → ℕ → ℕ → ℕ → ℕ → ℕ → ℕ → ℕ → List ℕ
@@ -117,5 +117,5 @@ right (x ∷ xs) = eqb (x .0) (x .1) && right xs
 
 -- every example comes out right
 pub examples-right : T (right examples)
-unfolding right examples put listing desk table number any before beforeBy start count limit itemLength item bodyEnd due openingAt takesAt givesAt labelAt earlierAt laterAt tooShort overLimitAt overLimit misplacedAt misplaced wrongEnd overOpeningAt overOpening overWeightAt overWeightIn overWeight noTransitionAt noTransition noEventAt noEvent selfPairAt selfPair samePair repeatAt repeated cycleAt cyclic layoutFaults contentFaults faults firstFault faultOf
+unfolding right examples put listing desk table number any before beforeBy start count limit itemLength item bodyEnd due openingAt takesAt givesAt labelAt earlierAt laterAt tooShort overLimitAt overLimit misplacedAt misplaced wrongEnd overOpeningAt overOpening overWeightAt overWeightIn overWeight noTransitionAt noTransition noEventAt noEvent selfPairAt selfPair samePair repeatAt repeated cycleAt cyclic layoutFaults itemFaults orderFaults contentFaults faults firstFault faultOf
 examples-right = tt

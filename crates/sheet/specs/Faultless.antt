@@ -13,7 +13,7 @@ use Rattle.plan.specs.Order.{Before, pair, chain, before, Sound}
 use Rattle.plan.specs.Closure.{before-test}
 use Rattle.sheet.specs.Table.{placesOf, transitionsOf, eventsOf, pairsOf}
 use Rattle.sheet.specs.Items.{openingAt, takesAt, givesAt, labelAt, earlierAt, laterAt, netOf, planOf}
-use Rattle.sheet.specs.Faults.{overOpeningAt, overOpening, overWeightAt, overWeightIn, overWeight, noTransitionAt, noTransition, noEventAt, noEvent, selfPairAt, selfPair, repeated, samePair, repeatAt, cycleAt, cyclic, layoutFaults, contentFaults, faults, firstFault, faultOf}
+use Rattle.sheet.specs.Faults.{overOpeningAt, overOpening, overWeightAt, overWeightIn, overWeight, noTransitionAt, noTransition, noEventAt, noEvent, selfPairAt, selfPair, repeated, samePair, repeatAt, cycleAt, cyclic, layoutFaults, itemFaults, orderFaults, contentFaults, faults, firstFault, faultOf}
 use Rattle.sheet.specs.Laid.{Laid, limited, laid}
 
 -- no fault of a list is there
@@ -54,7 +54,7 @@ first-most (f ∷ fs) s k h =
 
 -- The faults of a sheet are numbered up to 11.
 pub fault-most : (s : List ℕ) → faultOf s ≤ 11
-unfolding faultOf faults layoutFaults contentFaults
+unfolding faultOf faults layoutFaults itemFaults orderFaults contentFaults
 fault-most s = first-most faults s 11 (tt, (tt, (tt, (tt, (tt, (tt, (tt, (tt, (tt, (tt, (tt, tt)))))))))))
 
 pub record Faultless (s : List ℕ) : Type 0 where
@@ -104,7 +104,7 @@ no-repeat s none i j l m e d =
     (yes-and (eqb (earlierAt s i) (earlierAt s j)) (eqb (laterAt s i) (laterAt s j)) (yes-eqb e) (yes-eqb d))
 
 pub faultless : (s : List ℕ) → faultOf s ≡ 0 → Faultless s
-unfolding faultOf faults layoutFaults contentFaults overOpening overOpeningAt noTransition noTransitionAt selfPair selfPairAt cyclic cycleAt
+unfolding faultOf faults layoutFaults itemFaults orderFaults contentFaults overOpening overOpeningAt noTransition noTransitionAt selfPair selfPairAt cyclic cycleAt
 faultless s e =
     let a = absent faults s (tt, (tt, (tt, (tt, (tt, (tt, (tt, (tt, (tt, (tt, (tt, tt))))))))))) e in
     let b = a .1 .1 .1 .1 in

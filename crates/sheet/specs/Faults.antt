@@ -90,17 +90,16 @@ cyclic s = any (eventsOf s) (cycleAt s)
 unfoldable pub layoutFaults : List (ℕ × (List ℕ → Bool))
 layoutFaults = (1, tooShort) ∷ (2, overLimit) ∷ (3, misplaced) ∷ (4, wrongEnd) ∷ []
 
--- and only once those are absent what stands in them.
+-- and only once those are absent what stands in them: first in each item,
+unfoldable pub itemFaults : List (ℕ × (List ℕ → Bool))
+itemFaults = (5, overOpening) ∷ (6, overWeight) ∷ (7, noTransition) ∷ (8, noEvent) ∷ (9, selfPair) ∷ []
+
+-- then in the pairs together.
+unfoldable pub orderFaults : List (ℕ × (List ℕ → Bool))
+orderFaults = (10, repeated) ∷ (11, cyclic) ∷ []
+
 unfoldable pub contentFaults : List (ℕ × (List ℕ → Bool))
-contentFaults =
-    (5, overOpening)
-    ∷ (6, overWeight)
-    ∷ (7, noTransition)
-    ∷ (8, noEvent)
-    ∷ (9, selfPair)
-    ∷ (10, repeated)
-    ∷ (11, cyclic)
-    ∷ []
+contentFaults = itemFaults ++ orderFaults
 
 unfoldable pub faults : List (ℕ × (List ℕ → Bool))
 faults = layoutFaults ++ contentFaults

@@ -8,7 +8,7 @@ use denote.Ref.{now}
 use lib.ListN.{drop}
 use Rattle.sheet.specs.Table.{eventsOf, pairsOf}
 use Rattle.sheet.specs.Items.{planOf}
-use Rattle.sheet.specs.Faults.{cyclic, contentFaults, firstFault}
+use Rattle.sheet.specs.Faults.{cyclic, orderFaults, firstFault}
 use Rattle.sheet.specs.Chain.{told-here, told-later, told-none}
 use Rattle.order.specs.Rows.{PairsMarked}
 use Rattle.order.proofs.Cycles.{cycle-found, ordered}
@@ -39,8 +39,8 @@ marks c = marking c .mark-pairs .ensures .1 (c .if1 .left)
 few : (c : tie.Else1) → eventsOf (sheet c) ≤ 256
 few c = entry c .pre .0 .limited .events
 
-past : (c : tie.Else1) (k : ℕ) → k ≡ firstFault (drop 6 contentFaults) (sheet c) → k ≡ firstFault (drop 5 contentFaults) (sheet c)
-unfolding contentFaults
+past : (c : tie.Else1) (k : ℕ) → k ≡ firstFault (drop 1 orderFaults) (sheet c) → k ≡ firstFault orderFaults (sheet c)
+unfolding orderFaults
 past c k e = told-later _ _ _ _ (marking c .mark-pairs .ensures .0) (c .if1 .left) k e
 
 cycles : (c : tie.After-has-cycle) → c .has-cycle .result ≡ cyclic (sheet (c .before .before .before .before .before .before))
@@ -60,7 +60,7 @@ same-length-2 : tie.Need-same-length-2
 same-length-2 c = search needs
 
 returns : tie.Need-returns
-unfolding contentFaults
+unfolding orderFaults
 returns c = (told-here _ _ _ _ (c .before .before .before .before .before .mark-pairs .ensures .0) (c .if1 .taken), λ e. absurd (eqb-false 10 0 refl e))
 
 close-requires : tie.Need-close-requires
@@ -78,7 +78,7 @@ same-length-4 : tie.Need-same-length-4
 same-length-4 c = search needs
 
 returns-2 : tie.Need-returns-2
-unfolding contentFaults
+unfolding orderFaults
 returns-2 c = (
   past (c .before .before .before .before .before .before .before) _ (told-here _ _ _ _ (cycles (c .before)) (c .if2 .taken)),
   λ e. absurd (eqb-false 11 0 refl e),
@@ -96,7 +96,7 @@ same-length-6 : tie.Need-same-length-6
 same-length-6 c = search needs
 
 returns-3 : tie.Need-returns-3
-unfolding contentFaults
+unfolding orderFaults
 returns-3 c =
     let known = c .before .before .before .before .before .before .before .before .before .before .before in
     let given = entry known .pre in
