@@ -19,7 +19,7 @@ here c =
     earlier-reads (now (a .s)) (known .0) (a .places) (known .1 .0 .0) (a .transitions) (known .1 .0 .1) (a .events) (known .1 .0 .2) (a .i) _ (known .1 .1) (omega arith)
 
 get16-requires : tie.Need-get16-requires
-get16-requires c κs = here c .within
+get16-requires c κs = omega (arith, here c .within)
 
 cast-v : tie.Need-cast-v
 cast-v c = search needs

@@ -26,7 +26,7 @@ here c =
     label-reads (now (a .s)) (known .0) (a .places) (known .1 .0 .0) (a .transitions) (known .1 .0 .1) (a .v .0) _ (known .1 .1) (omega arith)
 
 get16-requires : tie.Need-get16-requires
-get16-requires c κs = here c .within
+get16-requires c κs = omega (arith, here c .within)
 
 cast-t : tie.Need-cast-t
 cast-t c = search needs

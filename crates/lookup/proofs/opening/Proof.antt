@@ -23,7 +23,7 @@ here c =
     opening-reads (now (a .s)) (known .0) (a .p .0) (32 + 4 * a .p .0) (known .1) (omega arith)
 
 get32-requires : tie.Need-get32-requires
-get32-requires c κs = here c .within
+get32-requires c κs = omega (arith, here c .within)
 
 returns : tie.Need-returns
 returns c = c .get32 .ensures .0 ∙ here (c .before) .is
