@@ -3,7 +3,7 @@ use Prim.Native.Nat.{ℕ, zero, suc, _<_}
 use native.Mathlib.Omega.{arith}
 use mathlib.Core.List.{List}
 use mathlib.Core.Path.{_≡_, sym, ap, subst, _∙_}
-use lib.ListN.{length, getD}
+use lib.ListN.{getD}
 use Rattle.plan.specs.Prefix.{missing}
 use Rattle.sheet.specs.Faults.{faultOf}
 use Rattle.sheet.specs.Table.{placesOf}
@@ -12,7 +12,6 @@ use Rattle.calls.specs.Call.{row-known}
 use Rattle.calls.specs.Overwritten.{overwritten, over-first, at-none}
 use Rattle.lookup.specs.declared.Place.{Place}
 use Rattle.judge.specs.Counts.{missingAt}
-use Rattle.summary.specs.declared.Verdict.{Verdict}
 use Rattle.summary.specs.declared.Verdict.the-variants.{Short}
 use Rattle.summary.specs.Laws.{Says, verdict-says}
 use Rattle.place_judgement.specs.Judgement.{missingIn, judgeFault, judgementOf, judgement-missing}

@@ -6,7 +6,7 @@ use native.Mathlib.Omega.{arith}
 use mathlib.Core.List.{List}
 use mathlib.Core.Path.{_≡_, sym, subst, _∙_}
 use lib.Dec.{T}
-use Rattle.plan.specs.Net.{Net, Plan, Labelled}
+use Rattle.plan.specs.Net.{Net, Plan}
 use Rattle.plan.specs.Order.{Before, pair, chain}
 use Rattle.plan.specs.Prefix.{missing, runsAt}
 use Rattle.plan.specs.Flow.{Flow, otherwiseValid, overrun}

@@ -1,8 +1,6 @@
 -- Giving back tokens of one giver and drawing as many from another is an exchange.
 use Prim.Native.Nat.{ℕ, _+_, _*_, _≤_, _<_, min}
-use native.Mathlib.Nat.{le-refl}
 use native.Mathlib.Omega.{arith}
-use mathlib.Core.Bool.{not}
 use mathlib.Core.List.{List}
 use mathlib.Core.Logic.{⊎-elim}
 use mathlib.Core.Path.{_≡_, refl, sym, ap, _∙_}
@@ -10,11 +8,11 @@ use lib.Dec.{T, T-not, eqb, eqb→eq}
 use lib.ListN.{getD}
 use mir.Facts.{yes-eqb}
 use Rattle.finite.specs.Bounded.{decide}
-use Rattle.finite.specs.Sum.{on, on-yes, on-no, on-le}
+use Rattle.finite.specs.Sum.{on-yes, on-no, on-le}
 use Rattle.marks.specs.Marks.{marked}
 use Rattle.tokenflow.specs.Rows.{Rows, Drawn, Exact, MayDraw}
-use Rattle.tokenflow.specs.Flowing.{Flowing, lacking, kept-then, kept-back, drawn-keeps, drawn-flows, given-back-flows, drawn-lacking, may-draw}
-use Rattle.drawing.specs.Moves.{Moved, moved-none, SameSizes, drawn-sizes}
+use Rattle.tokenflow.specs.Flowing.{Flowing, kept-then, kept-back, drawn-keeps, drawn-flows, given-back-flows, drawn-lacking, may-draw}
+use Rattle.drawing.specs.Moves.{moved-none, drawn-sizes}
 use Rattle.exchange.specs.Exchange.{Exchanged}
 
 pub exchanged-none : (n : ℕ) (pred : List ℕ) (r : Rows) (u w v : ℕ) → Flowing n pred r → min (getD (r .free) u 0) (getD (r .amount) (v * 256 + w) 0) ≡ 0 → Exchanged n pred r r u w v 0

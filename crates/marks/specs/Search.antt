@@ -1,6 +1,5 @@
 -- What a search in two rows of marks answers.
 use Prim.Native.Nat.{ℕ, _<_}
-use mathlib.Core.Bool.{not}
 use mathlib.Core.List.{List}
 use mathlib.Core.Logic.{⊎-elim}
 use lib.Dec.{T, T-not}

@@ -2,26 +2,23 @@
 -- missing.
 use Prim.Native.Nat.{ℕ, _+_, _-_, _*_, _≤_, _<_}
 use native.Mathlib.Omega.{arith}
-use mathlib.Core.Bool.{Bool, true, false, not}
 use mathlib.Core.List.{List}
 use mathlib.Core.Logic.{⊎-elim}
-use mathlib.Core.Path.{_≡_, sym, ap, _∙_}
+use mathlib.Core.Path.{_≡_, sym, _∙_}
 use lib.Dec.{T, T-not}
 use lib.ListN.{getD}
 use Rattle.finite.specs.Bounded.{decide}
-use Rattle.finite.specs.Subset.{Set}
-use Rattle.finite.specs.Sum.{sum, on-yes, on-no}
+use Rattle.finite.specs.Sum.{on-no}
 use Rattle.marks.specs.Marks.{marked}
-use Rattle.plan.specs.Net.{Net, Plan, takenBy, givenBy}
-use Rattle.plan.specs.Order.{Before, Sound}
+use Rattle.plan.specs.Net.{Net, Plan}
+use Rattle.plan.specs.Order.{Sound}
 use Rattle.plan.specs.Prefix.{missing, smallest}
 use Rattle.theory.specs.Skeleton.{before-earlier}
 use Rattle.theory.specs.Tokenflow.{Tokenflow, Settled, missing-within, settled-missing, settled-smallest}
 use Rattle.tokenflow.specs.Rows.{fedBy, Rows}
 use Rattle.tokenflow.specs.Flowing.{Flowing, Kept, givenIn, takenIn, lacking}
 use Rattle.closure.specs.PlanRows.{Predecessors}
-use Rattle.search.specs.Row.{members, in-below}
-use Rattle.search.specs.Closed.{Closed}
+use Rattle.search.specs.Row.{members}
 use Rattle.settle.specs.Finished.{Finished}
 use Rattle.place.specs.Start.{Start, start-gives, start-takes}
 

@@ -1,12 +1,11 @@
 -- The rows before anything is drawn: every giver has free what it gives, every taker lacks what it takes, and nobody is fed.
-use Prim.Native.Nat.{ℕ, _+_, _≤_, _<_}
-use native.Mathlib.Nat.{add-zero}
+use Prim.Native.Nat.{ℕ, _≤_, _<_}
 use native.Mathlib.Omega.{arith}
 use mathlib.Core.List.{List}
-use mathlib.Core.Path.{_≡_, sym, ap, _∙_}
+use mathlib.Core.Path.{_≡_}
 use lib.Dec.{T}
 use lib.ListN.{getD}
-use Rattle.finite.specs.Sum.{sum, sum-zero, on-no}
+use Rattle.finite.specs.Sum.{sum-zero, on-no}
 use Rattle.marks.specs.Marks.{marked}
 use Rattle.plan.specs.Net.{Net, Plan, takenBy, givenBy}
 use Rattle.tokenflow.specs.Rows.{fedBy, Rows, Sized}

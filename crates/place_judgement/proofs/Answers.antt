@@ -1,8 +1,8 @@
 -- The answer of the place judgement and its rows, at each place where it is given.
-use Prim.Native.Nat.{ℕ, zero, suc, _+_, _<_, _≤_}
+use Prim.Native.Nat.{ℕ, zero, suc, _<_, _≤_}
 use native.Mathlib.Omega.{arith}
 use mathlib.Core.List.{List}
-use mathlib.Core.Path.{_≡_, refl, sym, ap, subst, _∙_}
+use mathlib.Core.Path.{_≡_, refl, sym, ap, _∙_}
 use borrow.Author.Tests.{eqb-false}
 use lib.ListN.{length}
 use Rattle.plan.specs.Prefix.{missing}
@@ -11,7 +11,7 @@ use Rattle.sheet.specs.Items.{netOf, planOf}
 use Rattle.sheet.specs.Faults.{faultOf}
 use Rattle.calls.specs.Call.{placeFault, sheet-first, no-place, a-place, lower-first, short-row, long-row}
 use Rattle.calls.specs.FlowRow.{flowLength, flowFault}
-use Rattle.calls.specs.Overwritten.{overwritten, unlessFault, at-fault, at-none}
+use Rattle.calls.specs.Overwritten.{overwritten, at-fault, at-none}
 use Rattle.place_judgement.specs.declared.Judgement.{Judgement}
 use Rattle.place_judgement.specs.declared.Judgement.the-variants.{Fault, Runs, Short}
 use Rattle.handing.specs.Handed.{doneMark, Written}

@@ -15,7 +15,6 @@ use Rattle.judge.specs.Counts.{missingAt}
 use Rattle.summary.specs.Summary.{countAt, MissingCounts}
 use Rattle.summary.specs.Laws.{total-agrees, short-agrees, verdict-agrees}
 use Rattle.plan_judgement.specs.declared.Totals.{Totals}
-use Rattle.plan_judgement.specs.declared.Answer.{Answer}
 use Rattle.plan_judgement.specs.declared.Answer.the-variants.{Fault, Judged}
 use Rattle.plan_judgement.specs.Judgement.{planFault, totalsIn, totalsOf, answer, answerOf, rowOf}
 use Rattle.plan_judgement.proofs.Bounds.{most-missing}

@@ -1,5 +1,5 @@
 -- What the answer of the plan judgement says: its fault, and that the verdict is Runs exactly if the plan runs.
-use Prim.Native.Nat.{ℕ, zero, suc, _<_}
+use Prim.Native.Nat.{ℕ, zero, suc}
 use mathlib.Core.List.{List}
 use mathlib.Core.Logic.{_↔_}
 use mathlib.Core.Path.{_≡_, refl, sym, subst}

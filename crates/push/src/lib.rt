@@ -239,8 +239,8 @@ fn push_down(
     draw_lowest(pred, queue, sets, amount, fed, free, share, end, n);
 }
 
-// Pushes what givers have free down the levels of a search, and draws it for the takers that lack tokens. Before the search `origin` and
-// `via` hold 256 throughout, so that they tell where it started and which givers it didn't meet.
+// Pushes what givers have free down the levels of a search, and draws it for the takers that lack tokens. The origin is 256 where the
+// search started, and the place of a giver that it didn't meet is 256.
 pub fn push(
     pred: &[u32],
     queue: &[usize],

@@ -1,5 +1,5 @@
 -- What the till server's numbers say: 0 that the plan runs, 1 to 11 the sheet's fault, and 1,000 to 1,063 the first short place. 13 never occurs.
-use Prim.Native.Nat.{ℕ, zero, suc, _+_, _<_, _≤_}
+use Prim.Native.Nat.{ℕ, zero, suc, _<_}
 use native.Mathlib.Nat.{eq-zero-or-pos}
 use native.Mathlib.Omega.{arith}
 use mathlib.Core.List.{List}

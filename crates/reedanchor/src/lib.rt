@@ -2,7 +2,6 @@
 ghost use Prim.Native.Nat.{_<_};
 ghost use mathlib.Core.Path.{_≡_};
 ghost use Rattle.summary.specs.Summary.{verdictNumber};
-ghost use Rattle.plan_judgement.specs.Judgement.{answerOf};
 ghost use Rattle.reedanchor.specs.Till.{answerNumber, tillAnswer};
 use plan_judgement::Answer;
 use plan_judgement::judge_plan;

@@ -1,5 +1,5 @@
 -- From a search to a walk that draws, or to the end.
-use Prim.Native.Nat.{ℕ, _≤_, _<_}
+use Prim.Native.Nat.{ℕ, _≤_}
 use native.Mathlib.Omega.{arith}
 use mathlib.Core.Bool.{Bool, true, false}
 use mathlib.Core.List.{List}
@@ -9,15 +9,13 @@ use lib.Dec.{leb, leb→le, T}
 use lib.ListN.{getD}
 use native.Mathlib.Nat.{eq-zero-or-pos}
 use Rattle.finite.specs.Sum.{sumOf}
-use Rattle.marks.specs.Marks.{marked}
 use Rattle.tokenflow.specs.Rows.{Rows}
 use Rattle.tokenflow.specs.Flowing.{Flowing, lacking}
 use Rattle.drawing.specs.Moves.{Moved, Order}
-use Rattle.search.specs.Row.{In}
 use Rattle.search.specs.Closed.{Narrow}
 use Rattle.search.specs.Searched.{Searched}
 use Rattle.search.specs.Trail.{_!_, Takers, Givers, takersOf, giversOf}
-use Rattle.exchange.specs.Walk.{Route, Ready, TrailRows, IsReady, Walked}
+use Rattle.exchange.specs.Walk.{TrailRows, IsReady, Walked}
 use Rattle.settle.specs.Finished.{Finished, HasFree, Advanced, Rounded}
 
 -- takers and givers are events

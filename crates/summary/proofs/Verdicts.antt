@@ -1,14 +1,14 @@
 -- The summary of the first places, one place after another.
 use Prim.Native.Nat.{ℕ, zero, suc, _+_, _≤_, _<_}
-use native.Mathlib.Nat.{not-suc-le-zero, le-suc-iff}
+use native.Mathlib.Nat.{le-suc-iff}
 use native.Mathlib.Numerals.{add-one}
 use native.Mathlib.Omega.{arith}
-use mathlib.Core.Bool.{Bool, true, false}
+use mathlib.Core.Bool.{Bool}
 use mathlib.Core.Logic.{⊎-elim}
-use mathlib.Core.Path.{_≡_, refl, sym, ap, ap₂, subst, _∙_}
+use mathlib.Core.Path.{_≡_, refl, sym, ap, ap₂, _∙_}
 use borrow.Author.Tests.{lt-ltb, le-ltb}
 use lib.Dec.{ltb}
-use Rattle.finite.specs.Sum.{on, sum, sum-start, sum-more}
+use Rattle.finite.specs.Sum.{on, sum-start, sum-more}
 use Rattle.lookup.specs.declared.Place.{Place}
 use Rattle.summary.specs.declared.Verdict.{Verdict}
 use Rattle.summary.specs.declared.Verdict.the-variants.{Runs, Short}

@@ -20,7 +20,7 @@ use Rattle.plan.specs.Cut.{IsCoset, IsCut, preset, Covered, Executable}
 use Rattle.theory.specs.Missing.{taken, supply}
 use Rattle.theory.specs.Prefixes.{reached, front-yes, yes-front, preset-yes, yes-preset, preset-prefix}
 use Rattle.theory.specs.Signs.{tokens-minus, le-minus}
-use Rattle.theory.specs.Skeleton.{before-earlier, before-later}
+use Rattle.theory.specs.Skeleton.{before-earlier}
 
 -- ---- in a finite set with a strict order, every member is below a greatest one
 

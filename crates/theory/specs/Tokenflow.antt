@@ -5,19 +5,19 @@ use native.Mathlib.Nat.{le-antisymm, eq-zero-or-pos, lt-irrefl}
 use native.Mathlib.Omega.{arith}
 use mathlib.Core.Bool.{Bool, true, false, not}
 use mathlib.Core.Logic.{⊎-elim}
-use mathlib.Core.Path.{_≡_, refl, sym, ap, subst, _∙_}
+use mathlib.Core.Path.{_≡_, sym, ap, subst, _∙_}
 use lib.Dec.{T, T-not}
 use mir.Facts.{or-yes}
 use Rattle.finite.specs.Bounded.{decide, yes-or-left, yes-or-right}
-use Rattle.finite.specs.Subset.{Set, Within, set-ext}
-use Rattle.finite.specs.Sum.{on, sum, over, on-yes, on-no, on-le, on-mono, on-sum, sum-ext, sum-mono, sum-zero, sum-swap, sum-tight, sum-term, over-add, over-mono, over-all}
+use Rattle.finite.specs.Subset.{Set, set-ext}
+use Rattle.finite.specs.Sum.{on, sum, over, on-yes, on-no, on-le, on-sum, sum-ext, sum-mono, sum-zero, sum-swap, sum-tight, over-add, over-mono, over-all}
 use Rattle.plan.specs.Net.{Net, Plan, takenBy, givenBy}
 use Rattle.plan.specs.Order.{Before, chain, Sound}
 use Rattle.plan.specs.Prefix.{IsPrefix, front, missing, smallest, lack, above0}
 use Rattle.plan.specs.Cut.{preset}
 use Rattle.theory.specs.Missing.{taken, supply, missing-bounds, missing-attained, lack-above0}
 use Rattle.theory.specs.Prefixes.{reached, front-yes, yes-front, preset-yes, yes-preset}
-use Rattle.theory.specs.Skeleton.{before-earlier, before-later}
+use Rattle.theory.specs.Skeleton.{before-earlier}
 use Rattle.theory.specs.Smallest.{positive, smallest-is}
 
 -- y u w tokens that u gives and w takes, only where u is before w. What u gives to nobody is free, and what w gets from nobody is

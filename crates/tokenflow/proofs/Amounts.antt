@@ -2,15 +2,14 @@
 use Prim.Native.Nat.{ℕ, _+_, _-_, _*_, _≤_, _<_}
 use native.Mathlib.Nat.{add-zero, zero-add}
 use native.Mathlib.Omega.{arith}
-use mathlib.Core.Bool.{Bool, true, false, not, _&&_, _||_, or-false, and-true}
+use mathlib.Core.Bool.{Bool, false, not, _&&_, _||_, or-false, and-true}
 use mathlib.Core.List.{List}
 use mathlib.Core.Logic.{_⊎_, inl, inr, ⊎-elim}
 use mathlib.Core.Path.{_≡_, refl, sym, ap, ap₂, subst, subst₂, _∙_}
-use borrow.Author.Tests.{eq-eqb, ne-eqb}
 use lib.Dec.{T, T-not, eqb, eqb→eq, eqb-refl}
 use lib.ListN.{length, getD, set, length-set}
 use lib.Seq.{getD-set-same, getD-set-other}
-use mir.Facts.{eqb-no, yes-eqb, and-yes, yes-and, or-yes}
+use mir.Facts.{eqb-no, and-yes, yes-and, or-yes}
 use Rattle.finite.specs.Bounded.{decide, same, yes-or-left, yes-or-right}
 use Rattle.finite.specs.Row.{raised-at}
 use Rattle.finite.specs.Sum.{on, on-yes, on-no, on-zero}

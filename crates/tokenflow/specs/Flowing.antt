@@ -2,14 +2,14 @@
 use Prim.Native.Nat.{ℕ, _+_, _*_, _≤_, _<_}
 use native.Mathlib.Omega.{arith}
 use mathlib.Core.List.{List}
-use mathlib.Core.Logic.{_⊎_, ⊎-elim}
-use mathlib.Core.Path.{_≡_, refl, sym, ap, subst, subst₂, _∙_}
+use mathlib.Core.Logic.{⊎-elim}
+use mathlib.Core.Path.{_≡_, refl, sym, ap, subst₂, _∙_}
 use lib.Dec.{T, eqb}
 use lib.ListN.{getD}
 use mir.Facts.{yes-eqb}
 use Rattle.finite.specs.Sum.{on, sum, sum-ext, sum-add, sum-one, on-yes, sum-term, sum-row-more, sum-column-more}
-use Rattle.marks.specs.Marks.{marked, HasRows}
-use Rattle.tokenflow.specs.Rows.{fedBy, Exact, Raised, Lowered, Rows, Drawn, Sized, MayDraw, MayGiveBack}
+use Rattle.marks.specs.Marks.{marked}
+use Rattle.tokenflow.specs.Rows.{fedBy, Exact, Raised, Rows, Drawn, Sized, MayDraw, MayGiveBack}
 
 -- marks stay exact: the one that is set or added has tokens
 raised-exact : (amount fed amount′ fed′ : List ℕ) (u w k : ℕ) → 0 < k → Raised amount fed amount′ fed′ u w k → Exact amount fed → Exact amount′ fed′

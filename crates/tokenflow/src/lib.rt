@@ -1,7 +1,6 @@
 // The tokenflow at one place, in rows that a caller lends: tokens drawn from a giver for a taker, and given back.
 ghost use Prim.Native.Nat.{_+_, _*_, _<_, _≤_};
 ghost use lib.Dec.{T};
-ghost use mathlib.Core.Path.{_≡_};
 ghost use lib.ListN.{length, getD};
 ghost use Rattle.marks.specs.Marks.{marked, HasRows};
 ghost use Rattle.tokenflow.specs.Rows.{fedBy, rows, Exact, Raised, Lowered, Sized, MayDraw, MayGiveBack, Drawn};

@@ -1,5 +1,4 @@
 -- `handing::hand_flow` meets its contract.
-use Prim.Native.Nat.{ℕ}
 use mathlib.Core.Path.{subst}
 use Rattle.sheet.specs.Items.{netOf, planOf}
 use Rattle.tokenflow.specs.Rows.{rows}

@@ -1,6 +1,6 @@
 -- `reedanchor::answer_number` meets its contract.
 use Prim.Native.Nat.{ℕ, _<_}
-use mathlib.Core.Path.{sym, subst, ap}
+use mathlib.Core.Path.{subst, ap}
 use Rattle.reedanchor.specs.Till.{answerNumber}
 use borrow.Author.Needs.{needs}
 use Rattle.reedanchor.proofs.answer_number.Statement.{statement}

@@ -1,5 +1,4 @@
 -- `tokenflow::give_back` meets its contract.
-use native.Mathlib.Omega.{arith}
 use borrow.Author.Needs.{needs}
 use Rattle.tokenflow.proofs.give_back.Statement.{statement}
 use Rattle.tokenflow.proofs.give_back.Tie as tie

@@ -1,5 +1,4 @@
 -- `tokenflow::lower` meets its contract.
-use native.Mathlib.Omega.{arith}
 use native.Mathlib.Numerals.{lt-of-le-of-ne}
 use mathlib.Core.Path.{sym}
 use borrow.Author.Needs.{needs}

@@ -1,5 +1,4 @@
 -- `tokenflow::refund` meets its contract.
-use native.Mathlib.Omega.{arith}
 use Rattle.tokenflow.proofs.Amounts.{raised-back}
 use borrow.Author.Needs.{needs}
 use Rattle.tokenflow.proofs.refund.Statement.{statement}
