@@ -4,7 +4,7 @@ use native.Mathlib.Omega.{arith}
 use mathlib.Core.List.{List}
 use mathlib.Core.Path.{_≡_, sym, ap, _∙_}
 use lib.IntN.{subℕ}
-use Rattle.finite.specs.Sum.{sum, over, sum-start, sum-more}
+use Rattle.finite.specs.Sum.{sum, over-full, sum-start, sum-more}
 use Rattle.plan.specs.Prefix.{tokens, endCount}
 use Rattle.theory.specs.Signs.{tokens-minus}
 use Rattle.sheet.specs.Table.{eventsOf}
@@ -18,8 +18,8 @@ unfoldable pub lostBy : List ℕ → ℕ → ℕ → ℕ
 lostBy s p n = sum n (λ v. takesAt s (labelAt s v) p)
 
 pub end-is : (s : List ℕ) (p : ℕ) → endCount (netOf s) (planOf s) p ≡ subℕ (gainedBy s p (eventsOf s)) (lostBy s p (eventsOf s))
-unfolding endCount tokens over gainedBy lostBy
-end-is s p = tokens-minus (openingAt s p) (sum (eventsOf s) (λ v. givesAt s (labelAt s v) p)) (sum (eventsOf s) (λ v. takesAt s (labelAt s v) p))
+unfolding endCount tokens gainedBy lostBy
+end-is s p = simp over-full (tokens-minus (openingAt s p) (sum (eventsOf s) (λ v. givesAt s (labelAt s v) p)) (sum (eventsOf s) (λ v. takesAt s (labelAt s v) p)))
 
 -- What a loop knows that adds one event after another.
 module _ (s : List ℕ) (p : ℕ) where

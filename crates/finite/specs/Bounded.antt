@@ -3,7 +3,7 @@ use Prim.Native.Nat.{ℕ, zero, suc, _<_}
 use native.Mathlib.Nat.{eq-or-lt-of-le, le-of-suc-le-suc, le-step, lt-suc-self, not-suc-le-zero}
 use mathlib.Core.Bool.{Bool, true, false, not, _&&_, _||_}
 use mathlib.Core.Logic.{_⊎_, inl, inr, ⊎-elim}
-use mathlib.Core.Path.{_≡_, refl, subst, sym}
+use mathlib.Core.Path.{_≡_, refl, ap₂, subst, sym}
 use lib.Dec.{T}
 use mir.Facts.{and-yes, yes-and, or-yes}
 
@@ -78,6 +78,12 @@ any-yes (suc n) f h =
     (λ k. let w = any-yes n f k in (w .0, le-step (w .1), w .2))
     (λ k. (n, lt-suc-self n, k))
     (or-yes (any n f) (f n) h)
+
+-- tests that agree below n
+pub any-ext : (n : ℕ) (f g : ℕ → Bool) → ((i : ℕ) → i < n → f i ≡ g i) → any n f ≡ any n g
+unfolding any
+any-ext zero f g h = refl
+any-ext (suc n) f g h = ap₂ _||_ (any-ext n f g (λ i l. h i (le-step l))) (h n (lt-suc-self n))
 
 pub yes-any : (n : ℕ) (f : ℕ → Bool) (i : ℕ) → i < n → T (f i) → T (any n f)
 unfolding any

@@ -7,7 +7,7 @@ use native.Mathlib.Numerals.{add-one}
 use native.Mathlib.Omega.{arith}
 use mathlib.Core.Bool.{Bool, true, false, _||_}
 use mathlib.Core.Path.{_≡_, refl, sym, ap, ap₂, subst, _∙_}
-use lib.Dec.{T, eqb, eqb-refl, eqb→eq}
+use lib.Dec.{T, eqb, eqb-refl, eqb→eq, ltb, lt→ltb}
 use lib.ListN.{getD}
 use Rattle.finite.specs.Bounded.{below-suc}
 
@@ -154,6 +154,11 @@ over-mono n S R f h = sum-mono n _ _ (λ v l. on-mono (S v) (R v) (f v) (h v l))
 pub over-all : (n : ℕ) (S : ℕ → Bool) (f : ℕ → ℕ) → over n S f ≤ sum n f
 unfolding over
 over-all n S f = sum-mono n _ _ (λ v l. on-le (S v) (f v))
+
+-- all numbers below n
+pub over-full : (n : ℕ) (f : ℕ → ℕ) → over n (λ v. ltb v n) f ≡ sum n f
+unfolding over
+over-full n f = sum-ext n _ f (λ v l. on-yes (ltb v n) (f v) (lt→ltb v n l))
 
 -- rows first or columns first
 pub sum-swap : (n m : ℕ) (f : ℕ → ℕ → ℕ) → sum n (λ i. sum m (λ j. f i j)) ≡ sum m (λ j. sum n (λ i. f i j))

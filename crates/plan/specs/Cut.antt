@@ -33,3 +33,8 @@ Covered N P p C = pos (over (P .events) C (takenBy N P p)) ≤ℤ tokens N P p (
 -- The plan is executable with respect to a place: every cut is covered there.
 pub record Executable (N : Net) (P : Plan) (p : ℕ) : Type 0 where
   pub cuts : (C : Set) → IsCut P C → Covered N P p C
+
+-- The plan is an execution of the net (003, definition 3), enabled in its opening counts (001, definition 6): every cut is covered at every
+-- place of the net.
+pub record Execution (N : Net) (P : Plan) : Type 0 where
+  pub covered : (p : ℕ) → p < N .places → (C : Set) → IsCut P C → Covered N P p C

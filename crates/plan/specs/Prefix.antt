@@ -1,8 +1,8 @@
 -- Done sets, what a place lacks at them, and the verdict. Document 01, "Net, plan and verdict".
 -- Document 01's done set is the field's prefix (003, section 2; 002, section 3), its front the minimal events of the rest.
 use Prim.Native.Nat.{ℕ, _<_}
-use mathlib.Core.Bool.{Bool, true, not, _&&_}
-use lib.Dec.{T, eqb}
+use mathlib.Core.Bool.{Bool, not, _&&_}
+use lib.Dec.{T, eqb, ltb}
 use lib.IntN.{ℤ, pos, negsuc, _+ℤ_, _-ℤ_}
 use Rattle.finite.specs.Bounded.{all, _⇒_}
 use Rattle.finite.specs.Subset.{Set, greatest, every}
@@ -28,9 +28,13 @@ unfoldable pub tokens : Net → Plan → ℕ → Set → ℤ
 tokens N P p D =
     pos (N .opening p) +ℤ pos (over (P .events) D (givenBy N P p)) -ℤ pos (over (P .events) D (takenBy N P p))
 
--- The lack of a done set is the takes of its front − those tokens: the deficit of the step that the front is.
+-- What events that begin together after a done set lack: their takes − those tokens. In the field's terms, the deficit of a step.
+abbrev pub stepLack : Net → Plan → ℕ → Set → Set → ℤ
+stepLack N P p D E = pos (over (P .events) E (takenBy N P p)) -ℤ tokens N P p D
+
+-- The lack of a done set is the takes of its front − those tokens: what its whole front lacks.
 unfoldable pub lack : Net → Plan → ℕ → Set → ℤ
-lack N P p D = pos (over (P .events) (front P D) (takenBy N P p)) -ℤ tokens N P p D
+lack N P p D = stepLack N P p D (front P D)
 
 -- a whole number, or 0 if it isn't above 0
 abbrev pub above0 : ℤ → ℕ
@@ -54,6 +58,10 @@ unfoldable pub smallest : Net → Plan → ℕ → Set
 smallest N P p v =
     every (P .events) (λ D. (prefix P D && eqb (above0 (lack N P p D)) (missing N P p)) ⇒ D v)
 
+-- The full set: every event. `Theorems.extremes` says that it is a done set, and so is the empty set.
+abbrev pub full : Plan → Set
+full P v = ltb v (P .events)
+
 -- The end count of a place is the tokens after the full set.
 unfoldable pub endCount : Net → Plan → ℕ → ℤ
-endCount N P p = tokens N P p (λ v. true)
+endCount N P p = tokens N P p (full P)

@@ -230,6 +230,9 @@ module _ (N : Net) (P : Plan) (p : ℕ) (S : Sound P) where
     cut-supply =
         omega (arith, over-mono (P .events) (preset P maximal) D (givenBy N P p) (λ v l t. let w = preset-yes P S maximal v t in done-before v (w .0) (w .2) (maximal-yes (w .0) (w .1) .reaches)))
 
+  -- What a done set and its front lack is lacking at some cut too: what the cut takes and what is taken before it, less what there is for it.
+  pub some-cut : (D : Set) → IsPrefix P D → (C : Set) × IsCut P C × (taken N P p D + supply N P p (preset P C) ≤ over (P .events) C (takenBy N P p) + over (P .events) (preset P C) (takenBy N P p) + supply N P p D)
+  some-cut D d = (maximal D d, maximal-cut D d, omega (arith, cut-taken D d, cut-supply D d))
+
   pub cuts-prefixes : Executable N P p → (D : Set) → IsPrefix P D → taken N P p D ≤ supply N P p D
-  cuts-prefixes x D d =
-      omega (arith, covered (maximal D d) .0 (x .cuts (maximal D d) (maximal-cut D d)), cut-taken D d, cut-supply D d)
+  cuts-prefixes x D d = let w = some-cut D d in omega (arith, covered (w .0) .0 (x .cuts (w .0) (w .1)), w .2)

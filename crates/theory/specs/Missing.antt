@@ -3,13 +3,14 @@ use Prim.Native.Nat.{ℕ, _+_, _-_, _≤_}
 use native.Mathlib.Omega.{arith}
 use mathlib.Core.Logic.{⊎-elim}
 use mathlib.Core.Path.{_≡_, ap, _∙_}
+use lib.IntN.{subℕ}
 use lib.Dec.{T, T-not}
 use Rattle.finite.specs.Bounded.{decide}
 use Rattle.finite.specs.Subset.{Set, Within, empty, greatest-bounds, greatest-attained}
 use Rattle.finite.specs.Sum.{on, sum, over, on-yes, on-no, over-either, over-all}
 use Rattle.plan.specs.Net.{Net, Plan, takenBy, givenBy}
 use Rattle.plan.specs.Order.{Sound}
-use Rattle.plan.specs.Prefix.{IsPrefix, prefix, front, tokens, lack, above0, missing}
+use Rattle.plan.specs.Prefix.{IsPrefix, prefix, front, tokens, stepLack, lack, above0, missing}
 use Rattle.theory.specs.Prefixes.{prefix-is, within, empty-prefix, reached, front-yes}
 use Rattle.theory.specs.Signs.{lack-minus, above0-minus}
 
@@ -27,12 +28,17 @@ module _ (N : Net) (P : Plan) (p : ℕ) where
   taken-split D =
       omega (arith, over-either (P .events) D (front P D) (takenBy N P p) (λ v d f. T-not (D v) (front-yes P D v f .outside) d))
 
+  pub step-lack-is : (D E : Set) → stepLack N P p D E ≡ subℕ (over (P .events) E (takenBy N P p) + over (P .events) D (takenBy N P p)) (supply D)
+  unfolding tokens supply
+  step-lack-is D E =
+      lack-minus (over (P .events) E (takenBy N P p)) (N .opening p) (over (P .events) D (givenBy N P p)) (over (P .events) D (takenBy N P p))
+
+  pub lack-is : (D : Set) → lack N P p D ≡ subℕ (taken D) (supply D)
+  unfolding lack
+  lack-is D = step-lack-is D (front P D) ∙ ap (λ (t : ℕ). subℕ t (supply D)) (taken-split D)
+
   pub lack-above0 : (D : Set) → above0 (lack N P p D) ≡ taken D - supply D
-  unfolding lack tokens supply
-  lack-above0 D =
-      ap above0 (lack-minus (over (P .events) (front P D) (takenBy N P p)) (N .opening p) (over (P .events) D (givenBy N P p)) (over (P .events) D (takenBy N P p)))
-      ∙ above0-minus (over (P .events) (front P D) (takenBy N P p) + over (P .events) D (takenBy N P p)) (supply D)
-      ∙ ap (λ (t : ℕ). t - supply D) (taken-split D)
+  lack-above0 D = ap above0 (lack-is D) ∙ above0-minus (taken D) (supply D)
 
   pub bounded : (D : Set) → Within (P .events) D → T (prefix P D) → taken D ≤ missing N P p + supply D
   unfolding missing

@@ -5,14 +5,14 @@ use native.Mathlib.Omega.{arith}
 use mathlib.Core.Bool.{not, _&&_}
 use mathlib.Core.Logic.{⊎-elim, _↔_}
 use mathlib.Core.Path.{sym, subst}
-use lib.Dec.{T}
+use lib.Dec.{T, lt→ltb, ltb→lt}
 use mir.Facts.{and-yes, yes-and, or-yes}
 use Rattle.finite.specs.Bounded.{any-yes, yes-any, all, all-yes, yes-all, _⇒_, imp-yes, yes-imp, decide, yes-or-left, yes-or-right}
 use Rattle.finite.specs.Subset.{Set, Within, empty}
 use Rattle.plan.specs.Net.{Plan}
 use Rattle.plan.specs.Order.{Before, pair, chain, before, Sound, skeleton}
 use Rattle.plan.specs.Closure.{before-test}
-use Rattle.plan.specs.Prefix.{IsPrefix, prefix, front}
+use Rattle.plan.specs.Prefix.{IsPrefix, prefix, front, full}
 use Rattle.plan.specs.Cut.{preset}
 use Rattle.theory.specs.Skeleton.{before-later, before-earlier, last-link, between, earlier-end}
 use Rattle.theory.specs.Stage.{Stage, either}
@@ -67,8 +67,12 @@ within P D p = record { below = p .events }
 pub empty-prefix : (P : Plan) → IsPrefix P empty
 empty-prefix P = record { events = λ v t. absurd t; closed = λ u v b t. absurd t }
 
--- the events before some member of a set
+-- the full set, and the events before some member of a set
 module _ (P : Plan) (S : Sound P) where
+  pub full-prefix : IsPrefix P (full P)
+  full-prefix =
+      record { events = λ v t. ltb→lt v (P .events) t; closed = λ u v b t. lt→ltb u (P .events) (before-earlier P S b) }
+
   pub preset-yes : (C : Set) (v : ℕ) → T (preset P C v) → (w : ℕ) × T (C w) × Before P v w
   unfolding preset
   preset-yes C v t =

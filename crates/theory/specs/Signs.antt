@@ -7,7 +7,7 @@ use mathlib.Core.Logic.{_↔_}
 use mathlib.Core.Path.{_≡_, refl, sym, ap, _∙_}
 use lib.Dec.{T, ltb, leb→le, le→leb, leb·suc-zero}
 use lib.IntN.{ℤ, pos, negsuc, negℤ, subℕ, _+ℤ_, _-ℤ_, +ℤ-assoc, +ℤ-comm, +ℤ-negℤ-cancel, -ℤ-+ℤ-cancel, negℤ-+ℤ, negℤ-negℤ}
-use lib.Signed.{leZ}
+use lib.Signed.{leZ, _≤ℤ_}
 use borrow.Author.Tests.{ltb-true, ltb-false}
 use Rattle.plan.specs.Prefix.{above0}
 
@@ -33,6 +33,16 @@ le-minus c a b = go (ltb a b) refl
     go : (t : Bool) → ltb a b ≡ t → T (leZ (pos c) (cond t (negsuc (b - suc a)) (pos (a - b)))) ↔ (c + b ≤ a)
     go true e = (λ t. absurd t, λ h. omega (arith, ltb-true a b e))
     go false e = (λ t. omega (arith, leb→le c (a - b) t, ltb-false a b e), λ h. le→leb c (a - b) (omega (arith, ltb-false a b e)))
+
+-- two differences, compared by sums
+pub minus-below : (a b c d : ℕ) → a + d ≤ c + b → subℕ a b ≤ℤ subℕ c d
+minus-below a b c d h = record { le = go (ltb a b) (ltb c d) refl refl }
+  where
+    go : (t u : Bool) → ltb a b ≡ t → ltb c d ≡ u → T (leZ (cond t (negsuc (b - suc a)) (pos (a - b))) (cond u (negsuc (d - suc c)) (pos (c - d))))
+    go true true e k = le→leb (d - suc c) (b - suc a) (omega (arith, ltb-true a b e, ltb-true c d k))
+    go true false e k = tt
+    go false true e k = absurd (omega (arith, ltb-false a b e, ltb-true c d k))
+    go false false e k = le→leb (a - b) (c - d) (omega (arith, ltb-false a b e, ltb-false c d k))
 
 -- the takes of a front, f, less the tokens there
 lack-sum : (f t X : ℤ) → f -ℤ (X -ℤ t) +ℤ X ≡ f +ℤ t

@@ -1,27 +1,43 @@
 -- The theorems about the definitions of the crate `plan`, each statement as a record whose fields are its clauses.
 -- They hold of every plan without a cycle whose pairs name events, and of every place; no number has a limit.
-use Prim.Native.Nat.{ℕ, _-_, _≤_, _<_}
+use Prim.Native.Nat.{ℕ, _+_, _-_, _≤_, _<_}
 use native.Mathlib.Omega.{arith}
 use mathlib.Core.Bool.{Bool, _&&_}
 use mathlib.Core.Logic.{_⊎_, inl, inr, ⊎-elim, _↔_}
-use mathlib.Core.Path.{_≡_, sym, subst}
+use mathlib.Core.Path.{_≡_, sym, subst, subst₂}
 use lib.Dec.{T, eqb, eqb→eq, eqb-refl, leb, le→leb, leb→le}
 use lib.IntN.{ℤ, pos, negsuc}
 use lib.Signed.{_≤ℤ_}
 use native.Mathlib.Nat.{eq-zero-or-pos}
 use mir.Facts.{and-yes, yes-and}
-use Rattle.finite.specs.Subset.{Set}
-use Rattle.plan.specs.Net.{Net, Plan, Labelled}
+use Rattle.finite.specs.Bounded.{all-yes, yes-all}
+use Rattle.finite.specs.Subset.{Set, empty}
+use Rattle.finite.specs.Sum.{over, over-mono}
+use Rattle.plan.specs.Net.{Net, Plan, takenBy, Labelled}
 use Rattle.plan.specs.Order.{Sound}
-use Rattle.plan.specs.Prefix.{IsPrefix, lack, above0, missing, runsAt, smallest}
-use Rattle.plan.specs.Cut.{Executable}
+use Rattle.plan.specs.Prefix.{IsPrefix, front, full, stepLack, lack, above0, missing, runsAt, runs, smallest}
+use Rattle.plan.specs.Cut.{IsCut, preset, Executable, Execution}
 use Rattle.plan.specs.Flow.{Flow, rule1, rule2, rule3, rule4, valid, otherwiseValid, overrun, shares}
 use Rattle.plan.specs.Compare.{withMore, MoreOrder, SameAt}
 use Rattle.theory.specs.Comparisons.{missing-more, missing-order, missing-same}
-use Rattle.theory.specs.Cuts.{prefixes-cuts, cuts-prefixes}
-use Rattle.theory.specs.Missing.{taken, supply, lack-above0, missing-bounds, missing-attained}
+use Rattle.theory.specs.Cuts.{some-cut, prefixes-cuts, cuts-prefixes}
+use Rattle.theory.specs.Missing.{taken, supply, step-lack-is, lack-is, lack-above0, missing-bounds, missing-attained}
 use Rattle.theory.specs.Overrun.{overrun-bounds, overrun-attained}
+use Rattle.theory.specs.Prefixes.{empty-prefix, full-prefix}
+use Rattle.theory.specs.Signs.{minus-below}
 use Rattle.theory.specs.Smallest.{IsSmallest, positive, smallest-is}
+
+-- "The empty set and the full set are done sets."
+pub record Extremes (P : Plan) : Type 0 where
+  pub empty-set : IsPrefix P empty
+  pub full-set : IsPrefix P (full P)
+
+-- "The whole front is the hardest case, and every such case follows from some cut."
+pub record Hardest (N : Net) (P : Plan) (p : ℕ) : Type 0 where
+  -- any part of a front lacks no more than the whole
+  pub whole-front : (D E : Set) → ((v : ℕ) → T (E v) → T (front P D v)) → stepLack N P p D E ≤ℤ lack N P p D
+  -- some cut lacks no less after the events before it
+  pub by-cut : (D : Set) → IsPrefix P D → (C : Set) × IsCut P C × (lack N P p D ≤ℤ stepLack N P p (preset P C) C)
 
 -- The missing count is the greatest lack over all done sets, or 0 if none is above 0.
 pub record IsMissing (N : Net) (P : Plan) (p m : ℕ) : Type 0 where
@@ -36,6 +52,13 @@ pub record Verdict (N : Net) (P : Plan) (p : ℕ) : Type 0 where
   pub by-cuts : T (runsAt N P p) ↔ Executable N P p
   -- and exactly if a valid compact tokenflow exists (003, theorems 2 to 4)
   pub by-flows : T (runsAt N P p) ↔ ((x : Flow) × T (valid N P p x))
+
+-- The verdict on the whole plan is the published one.
+pub record PlanVerdict (N : Net) (P : Plan) : Type 0 where
+  -- a plan runs exactly if it is an execution of the net: every cut is covered at every place (001, definition 6; 003, definition 3)
+  pub by-cuts : T (runs N P) ↔ Execution N P
+  -- and exactly if every place has a valid compact tokenflow (003, theorems 2 to 4)
+  pub by-flows : T (runs N P) ↔ ((p : ℕ) → p < N .places → (x : Flow) × T (valid N P p x))
 
 -- Demand 3, about the definition.
 pub record LeastCount (N : Net) (P : Plan) (p : ℕ) : Type 0 where
@@ -54,6 +77,9 @@ pub record LeastCount (N : Net) (P : Plan) (p : ℕ) : Type 0 where
 
 -- ---- the proofs
 
+pub extremes : (P : Plan) → Sound P → Extremes P
+extremes P S = record { empty-set = empty-prefix P; full-set = full-prefix P S }
+
 below-above0 : (z : ℤ) (m : ℕ) → above0 z ≤ m → z ≤ℤ pos m
 below-above0 (pos n) m h = record { le = le→leb n m h }
 below-above0 (negsuc n) m h = record { le = tt }
@@ -62,7 +88,7 @@ above0-below : (z : ℤ) (m : ℕ) → z ≤ℤ pos m → above0 z ≤ m
 above0-below (pos n) m h = leb→le n m (h .le)
 above0-below (negsuc n) m h = omega arith
 
-runs-none : (N : Net) (P : Plan) (p : ℕ) → T (runsAt N P p) ↔ (missing N P p ≡ 0)
+pub runs-none : (N : Net) (P : Plan) (p : ℕ) → T (runsAt N P p) ↔ (missing N P p ≡ 0)
 unfolding runsAt
 runs-none N P p = (eqb→eq (missing N P p) 0, λ e. subst (λ (m : ℕ). T (eqb m 0)) (sym e) (eqb-refl 0))
 
@@ -72,6 +98,23 @@ module _ (N : Net) (P : Plan) (p : ℕ) (S : Sound P) where
       record {
         bounds = λ D d. below-above0 (lack N P p D) (missing N P p) (omega (arith, missing-bounds N P p S D d, lack-above0 N P p D));
         attained = ⊎-elim inl (λ l. let w = missing-attained N P p S in inr (w .0, w .1, positive (lack N P p (w .0)) (missing N P p) (omega (arith, w .2, lack-above0 N P p (w .0))) l)) (eq-zero-or-pos (missing N P p));
+      }
+
+  pub hardest : Hardest N P p
+  unfolding lack
+  hardest =
+      let takes : Set → ℕ = λ E. over (P .events) E (takenBy N P p) in
+      record {
+        whole-front = λ D E part.
+            subst₂
+            _≤ℤ_
+            (sym (step-lack-is N P p D E))
+            (sym (step-lack-is N P p D (front P D)))
+            (minus-below (takes E + takes D) (supply N P p D) (takes (front P D) + takes D) (supply N P p D) (omega (arith, over-mono (P .events) E (front P D) (takenBy N P p) (λ v l t. part v t))));
+        by-cut = λ D d.
+            let w = some-cut N P p S D d in
+            let before : Set = preset P (w .0) in
+            (w .0, w .1, subst₂ _≤ℤ_ (sym (lack-is N P p D)) (sym (step-lack-is N P p before (w .0))) (minus-below (taken N P p D) (supply N P p D) (takes (w .0) + takes before) (supply N P p before) (w .2)));
       }
 
   no-lack : (D : Set) → (lack N P p D ≤ℤ pos 0) ↔ (taken N P p D ≤ supply N P p D)
@@ -123,4 +166,17 @@ module _ (N : Net) (P : Plan) (p : ℕ) (S : Sound P) where
         more-tokens = missing-more N P p;
         more-order = λ Q m. missing-order N P Q p m;
         other-places = λ M l s. sym (missing-same N M P p l s);
+      }
+
+-- A plan runs exactly if it does at every place.
+module _ (N : Net) (P : Plan) (S : Sound P) where
+  everywhere : T (runs N P) ↔ ((p : ℕ) → p < N .places → T (runsAt N P p))
+  unfolding runs
+  everywhere = (all-yes (N .places) (λ p. runsAt N P p), yes-all (N .places) (λ p. runsAt N P p))
+
+  pub plan-verdict : PlanVerdict N P
+  plan-verdict =
+      record {
+        by-cuts = (λ t. record { covered = λ p l. verdict N P p S .by-cuts .0 (everywhere .0 t p l) .cuts }, λ x. everywhere .1 (λ p l. verdict N P p S .by-cuts .1 (record { cuts = x .covered p l })));
+        by-flows = (λ t p l. verdict N P p S .by-flows .0 (everywhere .0 t p l), λ x. everywhere .1 (λ p l. verdict N P p S .by-flows .1 (x p l)));
       }
