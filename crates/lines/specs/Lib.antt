@@ -3,3 +3,4 @@ pub mod Marked
 pub mod Each
 pub mod Counted
 pub mod Examples
+pub mod Enough

@@ -5,3 +5,4 @@ pub mod Laid
 pub mod Faultless
 pub mod Chain
 pub mod Examples
+pub mod Enough

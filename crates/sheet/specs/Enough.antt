@@ -1,0 +1,113 @@
+-- How much of a longer sheet is enough to fault it. Document 01, "Calls": 21,281 bytes, one more than the longest sheet has.
+use Prim.Native.Nat.{ℕ, zero, suc, _+_, _*_, _<_, _≤_}
+use native.Mathlib.Nat.{le-of-lt}
+use native.Mathlib.Omega.{arith}
+use mathlib.Core.Bool.{Bool, true, false, not, cond}
+use mathlib.Core.List.{List}
+use mathlib.Core.Logic.{⊎-elim}
+use mathlib.Core.Path.{_≡_, refl, sym, ap, ap₂, subst, _∙_}
+use borrow.Author.Tests.{le-ltb}
+use lib.Dec.{eqb, ltb, leb, leb→le, nleb→lt}
+use lib.ListN.{length, take}
+use lib.Seq.{length-take-le, take-all}
+use Rattle.numbers.specs.Number.{number-take}
+use Rattle.finite.specs.Bounded.{any-ext, decide}
+use Rattle.sheet.specs.Table.{start, count, limit, itemLength, item, bodyEnd, due}
+use Rattle.sheet.specs.Faults.{tooShort, overLimitAt, overLimit, misplacedAt, misplaced, wrongEnd, layoutFaults, firstFault, faultOf}
+use Rattle.sheet.specs.Laid.{longest}
+use Rattle.sheet.specs.Faultless.{layout-laid, layout-decides}
+
+abbrev pub enoughBytes : ℕ
+enoughBytes = 21281
+
+-- that much of a sheet
+abbrev pub enough : List ℕ → List ℕ
+enough s = take enoughBytes s
+
+-- The table is within it.
+count-enough : (s : List ℕ) (e : ℕ) → e < 4 → count (enough s) e ≡ count s e
+unfolding count
+count-enough s e l = number-take enoughBytes 4 s (8 * e + 4) (omega arith)
+
+start-enough : (s : List ℕ) (e : ℕ) → e < 4 → start (enough s) e ≡ start s e
+unfolding start
+start-enough s e l = number-take enoughBytes 4 s (8 * e) (omega arith)
+
+limit-enough : (s : List ℕ) → overLimit (enough s) ≡ overLimit s
+unfolding overLimit overLimitAt
+limit-enough s = any-ext 4 _ _ (λ e l. ap (λ (n : ℕ). ltb (limit e) n) (count-enough s e l))
+
+end-enough : (s : List ℕ) (e : ℕ) → e < 4 → bodyEnd (enough s) e ≡ bodyEnd s e
+unfolding bodyEnd item itemLength
+end-enough s e l = rw (start-enough s e l, count-enough s e l, count-enough s 0 (omega arith))
+
+due-enough : (s : List ℕ) (e : ℕ) → e < 4 → due (enough s) e ≡ due s e
+unfolding due
+due-enough s zero l = refl
+due-enough s (suc e) l = end-enough s e (omega arith)
+
+starts-enough : (s : List ℕ) → misplaced (enough s) ≡ misplaced s
+unfolding misplaced misplacedAt
+starts-enough s =
+    any-ext 4 _ _ (λ e l. ap₂ (λ (a b : ℕ). not (eqb a b)) (start-enough s e l) (due-enough s e l))
+
+-- A sheet that isn't too short has the first of faults 2 to 4, if any. One that is too long has one of them.
+abbrev ofThree : Bool → Bool → Bool → ℕ
+ofThree two three four = cond two 2 (cond three 3 (cond four 4 0))
+
+long-fault : (s : List ℕ) → 32 ≤ length s → firstFault layoutFaults s ≡ ofThree (overLimit s) (misplaced s) (wrongEnd s)
+unfolding layoutFaults firstFault tooShort
+long-fault s l = simp (le-ltb (length s) 32 l)
+
+too-long : (s : List ℕ) → enoughBytes ≤ length s → ¬ (firstFault layoutFaults s ≡ 0)
+too-long s l none = omega (arith, longest s (layout-laid s none))
+
+-- where both have one of the three and agree on 2 and 3, it is the same
+same-fault : (a b c d : Bool) → ¬ (ofThree a b c ≡ 0) → ¬ (ofThree a b d ≡ 0) → ofThree a b c ≡ ofThree a b d
+same-fault true b c d m n = refl
+same-fault false true c d m n = refl
+same-fault false false true true m n = refl
+same-fault false false true false m n = absurd (n refl)
+same-fault false false false d m n = absurd (m refl)
+
+module _ (s : List ℕ) (long : enoughBytes ≤ length s) where
+  size : length (enough s) ≡ enoughBytes
+  size = length-take-le enoughBytes s long
+
+  of-three : firstFault layoutFaults (enough s) ≡ ofThree (overLimit s) (misplaced s) (wrongEnd (enough s))
+  of-three =
+      long-fault (enough s) (omega (arith, size))
+      ∙ ap₂ (λ (a b : Bool). ofThree a b (wrongEnd (enough s))) (limit-enough s) (starts-enough s)
+
+  layout-enough : firstFault layoutFaults (enough s) ≡ firstFault layoutFaults s
+  layout-enough =
+      let whole = long-fault s (omega arith) in
+      of-three
+      ∙ same-fault (overLimit s) (misplaced s) (wrongEnd (enough s)) (wrongEnd s) (λ e. too-long (enough s) (omega (arith, size)) (of-three ∙ e)) (λ e. too-long s long (whole ∙ e))
+      ∙ sym whole
+
+  -- a sheet that is too long is faulty, and so is that much of it
+  pub long-faulty : ¬ (faultOf s ≡ 0)
+  long-faulty none = too-long s long (sym (layout-decides s (too-long s long)) ∙ none)
+
+  fault-long : faultOf (enough s) ≡ faultOf s
+  fault-long =
+      layout-decides (enough s) (too-long (enough s) (omega (arith, size)))
+      ∙ layout-enough
+      ∙ sym (layout-decides s (too-long s long))
+
+-- a sheet that is no longer is all there
+all-there : (s : List ℕ) → length s < enoughBytes → enough s ≡ s
+all-there s l = take-all enoughBytes s (le-of-lt l)
+
+-- What holds of that much of a sheet holds of all of it, if it does where the sheet is as long, or longer, and so faulty.
+pub by-length : (X : List ℕ → Type 0) (s : List ℕ) → (enoughBytes ≤ length s → X (enough s)) → (length s < enoughBytes → X s) → X (enough s)
+by-length X s long short =
+    ⊎-elim
+    (λ t. long (leb→le enoughBytes (length s) t))
+    (λ t. let l = nleb→lt enoughBytes (length s) t in subst X (sym (all-there s l)) (short l))
+    (decide (leb enoughBytes (length s)))
+
+-- "At most 21,281 bytes of it, which is enough to fault a longer one rightly": the fault of any bytes is that of their first 21,281.
+pub fault-enough : (s : List ℕ) → faultOf (enough s) ≡ faultOf s
+fault-enough s = by-length (λ (t : List ℕ). faultOf t ≡ faultOf s) s (fault-long s) (λ _. refl)
