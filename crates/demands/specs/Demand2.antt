@@ -1,5 +1,6 @@
--- Demand 2: what the answers of the place judgement and the flow check say, for every sheet and every place of it that they take.
-use Prim.Native.Nat.{ℕ, _≤_, _<_}
+-- Demand 2: what the answers of the place judgement, the plan judgement, the till server's call and the flow check say, for every sheet and
+-- every place of it that they take.
+use Prim.Native.Nat.{ℕ, _+_, _≤_, _<_}
 use native.Mathlib.Nat.{eq-zero-or-pos}
 use native.Mathlib.Omega.{arith}
 use mathlib.Core.Bool.{Bool, true, false, cond, _&&_}
@@ -31,6 +32,9 @@ use Rattle.flowcheck.specs.Checked.{checkedOf, saysYes, checked-yes}
 use Rattle.place_judgement.specs.declared.Judgement.{Judgement}
 use Rattle.place_judgement.specs.declared.Judgement.the-variants.{Fault, Runs, Short}
 use Rattle.place_judgement.specs.Judgement.{missingIn, answer, judgeFault, judgementOf, judgement-missing, marksAfter, Handed}
+use Rattle.plan_judgement.specs.Judgement.{planFault, answerOf}
+use Rattle.reedanchor.specs.Till.{tillAnswer}
+use Rattle.demands.specs.Whole.{Tells, SaysRuns, SaysShort, plan-tells, till-tells}
 
 -- the events that a row of marks marks, of the first n
 abbrev pub doneIn : ℕ → List ℕ → Set
@@ -50,6 +54,9 @@ pub record Published (s : List ℕ) (p : ℕ) (flow marks : List ℕ) : Type 0 w
 -- Demand 2.
 pub record Demand2 : Type 0 where
   pub judged : (s : List ℕ) (p : ℕ) (flow marks : List ℕ) → judgeFault s p flow marks ≡ 0 → Published s p flow marks
+  -- The same verdict on the whole plan, by the plan judgement and by the number that the till server gets.
+  pub plan : (s row : List ℕ) → planFault s row ≡ 0 → Tells s (SaysRuns (answerOf s row)) (SaysShort (answerOf s row))
+  pub till : (s : List ℕ) → faultOf s ≡ 0 → Tells s (tillAnswer s ≡ 0) (λ p. tillAnswer s ≡ 1000 + p)
   -- "A flow drawn up elsewhere is passed exactly if valid."
   pub passed : (s : List ℕ) (p : ℕ) (row : List ℕ) → flowFault s p row ≡ 0 → (checkedOf s p row ≡ Valid) ↔ T (valid (netOf s) (planOf s) p (flowOf row))
 
@@ -137,6 +144,8 @@ pub demand-2 : Demand2
 demand-2 =
     record {
       judged = published;
+      plan = plan-tells;
+      till = till-tells;
       passed = λ s p row none. (
         λ e. subst T (sym (ap saysYes e) ∙ checked-yes s p row none) tt,
         λ t. yes-is (checkedOf s p row) (checked-yes s p row none ∙ same (valid (netOf s) (planOf s) p (flowOf row)) true (λ _. tt) (λ _. t)),

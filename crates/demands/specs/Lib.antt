@@ -1,3 +1,4 @@
 pub mod Counted
+pub mod Whole
 pub mod Demand2
 pub mod Demand3

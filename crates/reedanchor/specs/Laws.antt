@@ -1,5 +1,5 @@
 -- What the till server's numbers say: 0 that the plan runs, 1 to 11 the sheet's fault, and 1,000 to 1,063 the first short place. 13 never occurs.
-use Prim.Native.Nat.{ℕ, zero, suc, _<_}
+use Prim.Native.Nat.{ℕ, zero, suc, _+_, _<_}
 use native.Mathlib.Nat.{eq-zero-or-pos}
 use native.Mathlib.Omega.{arith}
 use mathlib.Core.List.{List}
@@ -9,6 +9,7 @@ use lib.Dec.{T}
 use Rattle.plan.specs.Prefix.{runs}
 use Rattle.judge.specs.Counts.{missingAt}
 use Rattle.sheet.specs.Table.{placesOf}
+use Rattle.lookup.specs.declared.Place.{Place}
 use Rattle.sheet.specs.Items.{netOf, planOf}
 use Rattle.sheet.specs.Faults.{faultOf}
 use Rattle.sheet.specs.Faultless.{faultless, fault-most}
@@ -38,6 +39,17 @@ number-13 : (v : Verdict) → ¬ (verdictNumber v ≡ 13)
 number-13 Runs e = omega arith
 number-13 (Short p m) e = omega arith
 
+-- the place p, as the number that it is
+abbrev at : ℕ → Place
+at p = record { 0 = p }
+
+number-short : (v : Verdict) (p : ℕ) → (verdictNumber v ≡ 1000 + p) ↔ ((m : ℕ) × (v ≡ Short (at p) m))
+number-short Runs p = (λ e. absurd (omega arith), λ h. absurd (omega (arith, ap verdictNumber (h .1))))
+number-short (Short q m) p = (
+  λ e. let same : q .0 ≡ p = omega arith in (m, ap (λ (n : ℕ). Short (at n) m) same),
+  λ h. ap verdictNumber (h .1),
+)
+
 module _ (s : List ℕ) where
   abbrev verdict : Verdict
   verdict = verdictOf (missingAt s) (placesOf s)
@@ -64,6 +76,12 @@ module _ (s : List ℕ) where
       by-fault
       (λ none. number-13 verdict (sym (till-taken none) ∙ e))
       (λ some. omega (arith, till-refused (λ none. omega arith), fault-most s))
+
+  -- 1,000 plus a place's number says that the verdict is short, first at that place
+  pub till-short : faultOf s ≡ 0 → (p : ℕ) → (tillAnswer s ≡ 1000 + p) ↔ ((m : ℕ) × (verdict ≡ Short (at p) m))
+  till-short none p =
+      let told = number-short verdict p in
+      (λ e. told .0 (sym (till-taken none) ∙ e), λ h. till-taken none ∙ told .1 h)
 
   pub till-runs : (tillAnswer s ≡ 0) ↔ ((faultOf s ≡ 0) × T (runs (netOf s) (planOf s)))
   unfolding totalsOf
