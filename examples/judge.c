@@ -1,5 +1,6 @@
 /* Judges sheets: prints for each file whether its plan runs, where it is short first, or why its sheet is refused.
- * Exit status: 0 every plan runs, 1 some plan is short or some sheet refused, 2 wrong use or a file that can't be read. */
+ * Exit status: 0 every plan runs, 1 some plan is short or some sheet refused, 2 wrong use or a file that can't be read.
+ * It is C (since C99) and C++ (since C++98) alike. */
 #include <errno.h>
 #include <stdio.h>
 #include <string.h>
@@ -9,23 +10,22 @@
 /* One byte more than the longest sheet: enough to refuse a longer one rightly. */
 enum { MOST_BYTES = 21281 };
 
-static const char *const faults[] = {
-    [REEDANCHOR_NO_TABLE] = "fewer than 32 bytes",
-    [REEDANCHOR_OVER_LIMIT] = "an item count above its limit",
-    [REEDANCHOR_MISPLACED_BODY] = "a body's start isn't the end of what precedes it",
-    [REEDANCHOR_WRONG_END] = "the sheet doesn't end with its last body",
-    [REEDANCHOR_OVER_OPENING] = "an opening count above 1,000,000",
-    [REEDANCHOR_OVER_WEIGHT] = "a weight above 1,000",
-    [REEDANCHOR_NO_TRANSITION] = "an event names no transition",
-    [REEDANCHOR_NO_EVENT] = "a pair names no event",
-    [REEDANCHOR_SELF_PAIR] = "a pair of an event with itself",
-    [REEDANCHOR_REPEATED_PAIR] = "a pair given twice",
-    [REEDANCHOR_CYCLE] = "the order has a cycle",
-};
-
 static const char *reason(uint32_t fault)
 {
-    return fault < sizeof faults / sizeof faults[0] ? faults[fault] : "for a reason that this program doesn't know";
+    switch (fault) {
+    case REEDANCHOR_NO_TABLE: return "fewer than 32 bytes";
+    case REEDANCHOR_OVER_LIMIT: return "an item count above its limit";
+    case REEDANCHOR_MISPLACED_BODY: return "a body's start isn't the end of what precedes it";
+    case REEDANCHOR_WRONG_END: return "the sheet doesn't end with its last body";
+    case REEDANCHOR_OVER_OPENING: return "an opening count above 1,000,000";
+    case REEDANCHOR_OVER_WEIGHT: return "a weight above 1,000";
+    case REEDANCHOR_NO_TRANSITION: return "an event names no transition";
+    case REEDANCHOR_NO_EVENT: return "a pair names no event";
+    case REEDANCHOR_SELF_PAIR: return "a pair of an event with itself";
+    case REEDANCHOR_REPEATED_PAIR: return "a pair given twice";
+    case REEDANCHOR_CYCLE: return "the order has a cycle";
+    default: return "for a reason that this program doesn't know";
+    }
 }
 
 /* Prints what is said of the sheet. Returns whether its plan runs. */

@@ -34,25 +34,35 @@ static uint32_t due_answer(const struct bytes *sheet, struct tally *tally)
     return due;
 }
 
-static void count(struct tally *tally, const struct bytes *sheet, uint32_t answer)
+static void stop_at(const struct bytes *sheet)
 {
-    tally->sheets++;
-    tally->above_limit += sheet->length > MAX_SHEET;
-    if (answer == REEDANCHOR_RUNS)
-        tally->runs++;
-    else if (answer <= FAULTS)
-        tally->fault[answer]++;
-    else
-        tally->short_at[answer - REEDANCHOR_SHORT]++;
+    for (size_t i = 0; i < sheet->length; i++)
+        fprintf(stderr, "%02x", sheet->at[i]);
+    fprintf(stderr, "\n");
+    exit(1);
 }
 
 static void fail(const struct bytes *sheet, const char *where, uint32_t found, uint32_t due)
 {
     fprintf(stderr, "compare: %u is due, not %u, with the sheet at the %s of its memory:\n", due, found, where);
-    for (size_t i = 0; i < sheet->length; i++)
-        fprintf(stderr, "%02x", sheet->at[i]);
-    fprintf(stderr, "\n");
-    exit(1);
+    stop_at(sheet);
+}
+
+// Counts an answer that both judges gave. One that the header doesn't name is a failure, though they agree.
+static void count(struct tally *tally, const struct bytes *sheet, uint32_t answer)
+{
+    tally->sheets++;
+    tally->above_limit += sheet->length > MAX_SHEET;
+    if (answer == REEDANCHOR_RUNS) {
+        tally->runs++;
+    } else if (answer <= FAULTS) {
+        tally->fault[answer]++;
+    } else if (answer >= REEDANCHOR_SHORT && answer - REEDANCHOR_SHORT < MAX_PLACES) {
+        tally->short_at[answer - REEDANCHOR_SHORT]++;
+    } else {
+        fprintf(stderr, "compare: both judges say %u, which is no answer, of the sheet:\n", answer);
+        stop_at(sheet);
+    }
 }
 
 static void compare(const struct bytes *sheet, struct tally *tally)

@@ -1,7 +1,8 @@
 """A judge of sheets that shares nothing with the code under test: document 01's definitions, read off literally.
 
 It walks all done sets of a plan, so it is for plans of a few events. `by_greatest_flow` is a second way to a place's missing
-count and smallest done set, for plans of any size; tests/random_plans holds the two against each other.
+count and smallest done set, for plans of any size; tests/random_plans holds the two against each other. What it finds of a larger plan
+counts only where `objection` has none: a done set and rows of flow, each held to the definitions, show the answer.
 """
 import struct
 from collections import deque
@@ -9,6 +10,7 @@ from functools import cached_property
 
 LIMITS = (64, 64, 256, 1024)  # places, transitions, events, pairs
 MOST_BYTES = 21280
+WALKED_EVENTS = 12  # up to so many events all done sets are walked
 
 
 def item_lengths(places):
@@ -120,9 +122,10 @@ class Plan:
     def is_before(self, a, b):
         return self.predecessors[b] >> a & 1 == 1
 
-    def is_skeleton(self, pair):
-        a, b = pair
-        return not any(self.is_before(a, v) and self.is_before(v, b) for v in range(self.events))
+    @cached_property
+    def skeleton(self):
+        """The pairs between whose ends no event lies."""
+        return {(a, b) for a, b in self.pairs if not any(self.is_before(a, v) and self.is_before(v, b) for v in range(self.events))}
 
     @property
     def free(self):
@@ -145,8 +148,11 @@ class Plan:
     def tokens(self, place, inside):
         return self.opening[place] + sum(self.gives(v, place) - self.takes(v, place) for v in inside)
 
+    def lack(self, place, inside, front):
+        return sum(self.takes(v, place) for v in front) - self.tokens(place, inside)
+
     def lacks(self, place):
-        return {done: sum(self.takes(v, place) for v in front) - self.tokens(place, inside) for done, inside, front in self.done_sets}
+        return {done: self.lack(place, inside, front) for done, inside, front in self.done_sets}
 
     def by_done_sets(self, place):
         """The missing count and, where it is above 0, the done set contained in all others of that lack; else None."""
@@ -167,35 +173,89 @@ class Plan:
 
     # plans of any size
 
-    def by_greatest_flow(self, place):
-        """The same by a flow network. To choose sets D within U such that what is before U is in D, with the greatest takes of U
-        less gives of D, is to find a least cut: source to top(v) with what v takes, top(v) to bottom(u) for u before v and
-        bottom(v) to top(v) without limit, bottom(v) to sink with what v gives."""
+    def network(self, place, pairs):
+        """To choose sets D within U such that what is before U is in D, with the greatest takes of U less gives of D, is to find a least
+        cut: source to top(v) with what v takes, top(v) to bottom(u) for u before v and bottom(v) to top(v) without limit, bottom(v) to
+        sink with what v gives. Returns the network, the arcs from its source by events, and those of the pairs."""
         network, source, sink = Network(2 * self.events + 2), 2 * self.events, 2 * self.events + 1
-        total = 0
+        taken = [network.add(source, v, self.takes(v, place)) for v in range(self.events)]
         for v in range(self.events):
-            total += self.takes(v, place)
-            network.add(source, v, self.takes(v, place))
             network.add(self.events + v, sink, self.gives(v, place))
             network.add(self.events + v, v, None)
-        for a, b in self.pairs:
-            network.add(b, self.events + a, None)
-        most = total - network.greatest_flow(source, sink) - self.opening[place]
+        drawn = {(a, b): network.add(b, self.events + a, None) for a, b in pairs}
+        return network, taken, drawn
+
+    def by_greatest_flow(self, place):
+        """The missing count and the smallest done set, by the least cut that has the least on the source's side."""
+        network, _, _ = self.network(place, self.pairs)
+        total = sum(self.takes(v, place) for v in range(self.events))
+        most = total - network.greatest_flow(2 * self.events, 2 * self.events + 1) - self.opening[place]
         if most <= 0:
             return 0, None
-        reached = network.levels(source)
+        reached = network.levels(2 * self.events)
         return most, [v for v in range(self.events) if reached[self.events + v] is not None]
 
     def judge(self, place):
-        return self.by_done_sets(place) if self.events <= 12 else self.by_greatest_flow(place)
+        if self.events <= WALKED_EVENTS:
+            return self.by_done_sets(place)
+        missing, done = self.by_greatest_flow(place)
+        against = self.objection(place, missing, done)
+        if against:
+            raise AssertionError("place %d: the greatest flow says %d missing after %s: %s" % (place, missing, done, against))
+        return missing, done
+
+    # what shows an answer, whoever found it
+
+    def flow_row(self, place):
+        """A row on the skeleton pairs, with shares for whatever is taken and not drawn. Nothing is assumed of it."""
+        network, taken, drawn = self.network(place, self.skeleton)
+        network.greatest_flow(2 * self.events, 2 * self.events + 1)
+        flow = [network.through(drawn[pair]) if pair in drawn else 0 for pair in self.pairs]
+        return flow + [self.takes(v, place) - network.through(taken[v]) for v in range(self.events)]
+
+    def giving_more(self, event, place, amount):
+        """The plan with an event that gives more to a place."""
+        takes, gives = self.transitions[self.labels[event]]
+        more = [given + (amount if p == place else 0) for p, given in enumerate(gives)]
+        labels = [len(self.transitions) if v == event else label for v, label in enumerate(self.labels)]
+        plan = Plan(self.opening, self.transitions + [(takes, more)], labels, self.pairs)
+        plan.predecessors, plan.skeleton = self.predecessors, self.skeleton
+        return plan
+
+    def overrun_found(self, place):
+        """The overrun of some flow otherwise valid, which no lack of a done set passes."""
+        row = self.flow_row(place)
+        if not self.is_otherwise_valid(place, row):
+            raise AssertionError("place %d: the row %s isn't a flow otherwise valid" % (place, row))
+        return self.overrun(place, row)
+
+    def objection(self, place, missing, done):
+        """What speaks against an answer; None where it is shown to be right. An upper bound: no done set lacks more than a flow otherwise
+        valid overruns. A lower one: the lack of the done set handed over. And it is within all others of that lack if each of its last events
+        is in all of them: if that event gave so much that no done set with it lacks, no other would lack as many either."""
+        if self.overrun_found(place) > missing:
+            return "no flow has so small an overrun"
+        if missing == 0:
+            return None if done is None else "a done set where nothing is missing"
+        inside = sum(1 << v for v in done or ())
+        if done is None or any(self.predecessors[v] & ~inside for v in done):
+            return "that is no done set"
+        front = [v for v in range(self.events) if not inside >> v & 1 and self.predecessors[v] & ~inside == 0]
+        if self.lack(place, done, front) != missing:
+            return "that isn't the lack of the done set"
+        enough = 1 + sum(self.takes(v, place) for v in range(self.events))
+        for last in done:
+            if not any(self.is_before(last, v) for v in done) and self.giving_more(last, place, enough).overrun_found(place) >= missing:
+                return "as many may lack without event %d" % last
+        return None
 
     # compact tokenflow
 
     def flow_length(self):
         return len(self.pairs) + self.events
 
-    def is_valid(self, place, row):
-        """Rules 1 to 4."""
+    def is_otherwise_valid(self, place, row):
+        """Rules 1, 2 and 4."""
         flow, shares = row[:len(self.pairs)], row[len(self.pairs):self.flow_length()]
         arrives = list(shares)
         leaves = [0] * self.events
@@ -204,9 +264,15 @@ class Plan:
             arrives[b] += amount
         rule1 = all(arrives[v] >= self.takes(v, place) for v in range(self.events))
         rule2 = all(leaves[v] <= arrives[v] - self.takes(v, place) + self.gives(v, place) for v in range(self.events))
-        rule3 = sum(shares) <= self.opening[place]
-        rule4 = all(amount == 0 or self.is_skeleton(pair) for pair, amount in zip(self.pairs, flow))
-        return rule1 and rule2 and rule3 and rule4
+        rule4 = all(amount == 0 or pair in self.skeleton for pair, amount in zip(self.pairs, flow))
+        return rule1 and rule2 and rule4 and min(row[:self.flow_length()], default=0) >= 0
+
+    def overrun(self, place, row):
+        return max(0, sum(row[len(self.pairs):self.flow_length()]) - self.opening[place])
+
+    def is_valid(self, place, row):
+        """Rules 1 to 4."""
+        return self.is_otherwise_valid(place, row) and self.overrun(place, row) == 0
 
 
 class Network:
@@ -216,10 +282,16 @@ class Network:
         self.arcs, self.head, self.left = [[] for _ in range(nodes)], [], []
 
     def add(self, a, b, capacity):
+        """Returns the arc."""
         for tail, head, left in ((a, b, float("inf") if capacity is None else capacity), (b, a, 0)):
             self.arcs[tail].append(len(self.head))
             self.head.append(head)
             self.left.append(left)
+        return len(self.head) - 2
+
+    def through(self, arc):
+        """What flows through an arc."""
+        return self.left[arc ^ 1]
 
     def levels(self, source):
         level, queue = [None] * len(self.arcs), deque([source])
