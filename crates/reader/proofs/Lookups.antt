@@ -42,12 +42,15 @@ use Rattle.sheet.specs.Table.{placesOf, transitionsOf, eventsOf}
 use Rattle.sheet.specs.Items.{openingAt}
 use Rattle.sheet.specs.Laid.{Laid}
 use Rattle.sheet.specs.Faultless.{Faultless}
+use Rattle.counts.specs.Ends.{gainedAt, lostAt}
 use Rattle.counts.proofs.gained as sum
 use Rattle.reader.specs.Reads.{Reads}
 use Rattle.reader.specs.declared.Reader.{Reader}
 use Rattle.reader.proofs.Reader as T
 use Rattle.reader.proofs.Reader.Laws as T′
 use Rattle.reader.proofs.Walk.{bytes, Lent, one-fact, both, begins, ending, ends, closes, calls}
+use Rattle.reader.proofs.gained as gained
+use Rattle.reader.proofs.lost as lost
 use Rattle.reader.proofs.opening as any
 
 -- what a lookup asks of the reader d and the place p, and its contract, where it finds `found` in a sheet at a place. The signature of one is that of all
@@ -61,6 +64,17 @@ Looks Needs found 𝓤 κs a =
       requires = λ _. fact 𝓤 (Asks Needs (a .0) (a .1 .0));
       ensures = λ _ n _. fact 𝓤 (n ≡ found (now (a .0 .sheet)) (a .1 .0 .0));
     }
+
+-- It is the contract of each, as the source states it.
+module _ {M : Type 1} (𝓤 : URA M) (H : Heap 𝓤) (A : Atoms 𝓤) (mem : Memory → SProp 𝓤) (run : Routine → Fun 𝓤) where
+  opening-is : any.clauses 𝓤 H A mem run ≡ Looks Laid openingAt 𝓤
+  opening-is = refl
+
+  gained-is : gained.clauses 𝓤 H A mem run ≡ Looks Faultless gainedAt 𝓤
+  gained-is = refl
+
+  lost-is : lost.clauses 𝓤 H A mem run ≡ Looks Faultless lostAt 𝓤
+  lost-is = refl
 
 -- the contract of `counts::gained` and of `counts::lost`
 abbrev Sums : (List ℕ → ℕ → ℕ) → {M : Type 1} (𝓤 : URA M) → Clauses 𝓤 sum.ended

@@ -1,5 +1,5 @@
-// The reader of a sheet: the lent bytes together with the sheet's four counts, and thin lookups over it. Each takes the reader apart and
-// leaves the work to the function of the same name on bytes and plain counts. Faults 1 to 4 are absent.
+// The reader of a sheet: the lent bytes together with the sheet's four counts. Its fields are private, so that `read` alone makes one for
+// another crate. Each lookup takes the reader apart and leaves the work to the function of the same name on bytes and plain counts.
 ghost use Prim.Native.Nat.{_<_, _≤_};
 ghost use mathlib.Core.Path.{_≡_};
 ghost use lib.ListN.{length};
@@ -35,6 +35,7 @@ pub fn read<'a>(sheet: &'a [u8]) -> Reader<'a>
     }
 }
 
+// The opening count of a place.
 pub fn opening<'a>(r: Reader<'a>, p: Place) -> u32
     requires { ⌜ Laid (now (r .sheet)) × Reads r × (p .0 < r .places) ⌝ }
     ensures { λ n. ⌜ n ≡ openingAt (now (r .entry .sheet)) (p .0) ⌝ }
@@ -42,6 +43,7 @@ pub fn opening<'a>(r: Reader<'a>, p: Place) -> u32
     lookup::opening(r.sheet, p)
 }
 
+// The opening count of a place and what all events give to it.
 pub fn gained<'a>(r: Reader<'a>, p: Place) -> u32
     requires { ⌜ Faultless (now (r .sheet)) × Reads r × (p .0 < r .places) ⌝ }
     ensures { λ n. ⌜ n ≡ gainedAt (now (r .entry .sheet)) (p .0) ⌝ }
@@ -49,6 +51,7 @@ pub fn gained<'a>(r: Reader<'a>, p: Place) -> u32
     counts::gained(r.sheet, r.places, r.transitions, r.events, p)
 }
 
+// What all events take from a place.
 pub fn lost<'a>(r: Reader<'a>, p: Place) -> u32
     requires { ⌜ Faultless (now (r .sheet)) × Reads r × (p .0 < r .places) ⌝ }
     ensures { λ n. ⌜ n ≡ lostAt (now (r .entry .sheet)) (p .0) ⌝ }
