@@ -1,5 +1,5 @@
--- The walks of the lookups, by hand. Each takes the sheet out of the reader on entry, and passes it on with what else the callee takes: `opening` nothing, `gained`
--- and `lost` three counts. The MIR is written out with the callee's name left open, so that one walk serves both of the latter.
+-- The walks of the lookups, by hand. Each takes the sheet out of the reader on entry and passes it on, `gained` and `lost` with three counts.
+-- The MIR is written out with the callee's name left open, so that one walk serves both of these.
 use mathlib.Core.Path.{_≡_, refl}
 use Prim.Native.Nat.{ℕ, _<_}
 use native.Mathlib.Omega.{arith}
@@ -37,13 +37,13 @@ use denote.Triple.Statement.{Contract, Triple}
 use Rattle.lookup.specs.declared.Place.{Place}
 use Rattle.lookup.proofs.Place as P
 use Rattle.lookup.proofs.Place.Laws as P′
-use Rattle.lookup.proofs.opening as one
+use Rattle.lookup.proofs.opening as opening
 use Rattle.sheet.specs.Table.{placesOf, transitionsOf, eventsOf}
 use Rattle.sheet.specs.Items.{openingAt}
 use Rattle.sheet.specs.Laid.{Laid}
 use Rattle.sheet.specs.Faultless.{Faultless}
 use Rattle.counts.specs.Ends.{gainedAt, lostAt}
-use Rattle.counts.proofs.gained as sum
+use Rattle.counts.proofs.gained as side
 use Rattle.reader.specs.Reads.{Reads}
 use Rattle.reader.specs.declared.Reader.{Reader}
 use Rattle.reader.proofs.Reader as T
@@ -57,8 +57,8 @@ use Rattle.reader.proofs.opening as any
 abbrev pub Asks : (List ℕ → Type 0) → Reader → Place → Type 0
 Asks Needs d p = Needs (now (d .sheet)) × Reads d × (p .0 < d .places)
 
-abbrev pub Looks : (List ℕ → Type 0) → (List ℕ → ℕ → ℕ) → {M : Type 1} (𝓤 : URA M) → Clauses 𝓤 any.ended
-Looks Needs found 𝓤 κs a =
+abbrev pub LookupClauses : (List ℕ → Type 0) → (List ℕ → ℕ → ℕ) → {M : Type 1} (𝓤 : URA M) → Clauses 𝓤 any.ended
+LookupClauses Needs found 𝓤 κs a =
     record {
       ghost = Unit {0};
       requires = λ _. fact 𝓤 (Asks Needs (a .0) (a .1 .0));
@@ -67,18 +67,18 @@ Looks Needs found 𝓤 κs a =
 
 -- It is the contract of each, as the source states it.
 module _ {M : Type 1} (𝓤 : URA M) (H : Heap 𝓤) (A : Atoms 𝓤) (mem : Memory → SProp 𝓤) (run : Routine → Fun 𝓤) where
-  opening-is : any.clauses 𝓤 H A mem run ≡ Looks Laid openingAt 𝓤
+  opening-is : any.clauses 𝓤 H A mem run ≡ LookupClauses Laid openingAt 𝓤
   opening-is = refl
 
-  gained-is : gained.clauses 𝓤 H A mem run ≡ Looks Faultless gainedAt 𝓤
+  gained-is : gained.clauses 𝓤 H A mem run ≡ LookupClauses Faultless gainedAt 𝓤
   gained-is = refl
 
-  lost-is : lost.clauses 𝓤 H A mem run ≡ Looks Faultless lostAt 𝓤
+  lost-is : lost.clauses 𝓤 H A mem run ≡ LookupClauses Faultless lostAt 𝓤
   lost-is = refl
 
 -- the contract of `counts::gained` and of `counts::lost`
-abbrev Sums : (List ℕ → ℕ → ℕ) → {M : Type 1} (𝓤 : URA M) → Clauses 𝓤 sum.ended
-Sums found 𝓤 κs a =
+abbrev SideClauses : (List ℕ → ℕ → ℕ) → {M : Type 1} (𝓤 : URA M) → Clauses 𝓤 side.ended
+SideClauses found 𝓤 κs a =
     let s : List ℕ = now (a .0) in
     let p : Place = a .1 .1 .1 .1 .0 in
     let counted : Type 0 = (a .1 .0 ≡ placesOf s) × (a .1 .1 .0 ≡ transitionsOf s) × (a .1 .1 .1 .0 ≡ eventsOf s) in
@@ -105,8 +105,8 @@ function further body =
     }
 
 -- the n-th local gets the field k of the reader
-abbrev takes : ℕ → ℕ → Body
-takes n k = assign (place n []) (rvOpd (copy (place 1 (field k ∷ []))))
+abbrev loads : ℕ → ℕ → Body
+loads n k = assign (place n []) (rvOpd (copy (place 1 (field k ∷ []))))
 
 module _ {M : Type 1} (𝓤 : URA M) (H : Heap 𝓤) (A : Atoms 𝓤) (W : Given 𝓤 H A) where
   module _ (κ : Lft) (d : Reader) where
@@ -129,17 +129,17 @@ module _ {M : Type 1} (𝓤 : URA M) (H : Heap 𝓤) (A : Atoms 𝓤) (W : Given
   place-owned p is = owns-make 𝓤 H A (P.the-row ∷ []) (Ises (P.the-row ∷ [])) (LL.makes P.the-type P′.the-plain 𝓤 H A, tt) (p, tt) (P′.lowered p ∷ [], tt) (is, tt)
 
   module _ (Needs : List ℕ → Type 0) (found : List ℕ → ℕ → ℕ) where
-    abbrev entry : Lft → Share → Reader → Place → ending 𝓤 H A W any.ended (Looks Needs found 𝓤) .Ghost
+    abbrev entry : Lft → Share → Reader → Place → ending 𝓤 H A W any.ended (LookupClauses Needs found 𝓤) .Ghost
     entry κ q d p = (((κ, tt), (q, tt), tt, (d, (p, tt)), (T′.lowered d ∷ [], (P′.lowered p ∷ [], tt))), tt)
 
     -- from a walk that begins with what the sheet owns and the tokens
-    looks-up : (f : Fn) (𝓣 : Tables 𝓤 H)
+    lookup-meets : (f : Fn) (𝓣 : Tables 𝓤 H)
         → ((κ : Lft) (q : Share) (d : Reader) (p : Place) → Asks Needs d p → Holds (hasTy (T′.mir (named 0)) (T′.lowered d)) × WT (T′.lowered d) → Is P.the-row p (P′.lowered p ∷ [])
         → ent 𝓤 (sep 𝓤 (sem 𝓤 H A (Lent κ (d .sheet))) (alive 𝓤 H A any.signature (κ, tt) (q, tt)))
-        (WpFn 𝓤 H (𝓣 .C) (𝓣 .Λ) f (T′.lowered d ∷ P′.lowered p ∷ []) (ending 𝓤 H A W any.ended (Looks Needs found 𝓤) .post (entry κ q d p))))
-        → Meets 𝓤 H A any.signature (WpFn 𝓤 H (𝓣 .C) (𝓣 .Λ) f) (closing 𝓤 H A any.ended (Looks Needs found 𝓤))
-    looks-up f 𝓣 walk =
-        closes 𝓤 H A W any.ended (Looks Needs found 𝓤) f 𝓣
+        (WpFn 𝓤 H (𝓣 .C) (𝓣 .Λ) f (T′.lowered d ∷ P′.lowered p ∷ []) (ending 𝓤 H A W any.ended (LookupClauses Needs found 𝓤) .post (entry κ q d p))))
+        → Meets 𝓤 H A any.signature (WpFn 𝓤 H (𝓣 .C) (𝓣 .Λ) f) (closing 𝓤 H A any.ended (LookupClauses Needs found 𝓤))
+    lookup-meets f 𝓣 walk =
+        closes 𝓤 H A W any.ended (LookupClauses Needs found 𝓤) f 𝓣
         (λ κs. (LL.vals (T.the-type (namedLft 1 0 tt κs)) (T′.the-laws (namedLft 1 0 tt κs)), (LL.vals P.the-type P′.the-laws, tt))) ((λ κs x g. refl), ((λ κs x g. refl), tt))
         (λ κs. (LL.tells (T.the-type (namedLft 1 0 tt κs)) (T′.the-laws (namedLft 1 0 tt κs)), (LL.tells P.the-type P′.the-laws, tt))) (λ y are.
         let κ = y .0 .0 .0 in
@@ -152,50 +152,50 @@ module _ {M : Type 1} (𝓤 : URA M) (H : Heap 𝓤) (A : Atoms 𝓤) (W : Given
 
   module _ (mem : Memory → SProp 𝓤) (run : Routine → Fun 𝓤) where
     -- the contract that the walk cites
-    abbrev pub One : Contract 𝓤
-    One = tripleOf 𝓤 H A one.signature (one.spec 𝓤 H A mem run)
+    abbrev pub Opening : Contract 𝓤
+    Opening = tripleOf 𝓤 H A opening.signature (opening.spec 𝓤 H A mem run)
 
-    module _ (𝓣 : Tables 𝓤 H) (callee : Name) (met : Triple 𝓤 (𝓣 .C callee) One) where
-      abbrev opens : Fn
-      opens = function [] (seq (takes 3 0) (seq (call callee (copy (place 3 []) ∷ copy (place 2 []) ∷ []) (place 0 [])) return))
+    module _ (𝓣 : Tables 𝓤 H) (callee : Name) (met : Triple 𝓤 (𝓣 .C callee) Opening) where
+      abbrev opening-mir : Fn
+      opening-mir = function [] (seq (loads 3 0) (seq (call callee (copy (place 3 []) ∷ copy (place 2 []) ∷ []) (place 0 [])) return))
 
-      pub opens-up : Meets 𝓤 H A any.signature (WpFn 𝓤 H (𝓣 .C) (𝓣 .Λ) opens) (closing 𝓤 H A any.ended (Looks Laid openingAt 𝓤))
-      opens-up =
-          looks-up Laid openingAt opens 𝓣 (λ κ q d p known wt is-p.
+      pub opening-meets : Meets 𝓤 H A any.signature (WpFn 𝓤 H (𝓣 .C) (𝓣 .Λ) opening-mir) (closing 𝓤 H A any.ended (LookupClauses Laid openingAt 𝓤))
+      opening-meets =
+          lookup-meets Laid openingAt opening-mir 𝓣 (λ κ q d p known wt is-p.
           let within : p .0 < placesOf (now (d .sheet)) = omega arith in
-          qed W (‵ (Lent κ (d .sheet)) ∷ raw (alive 𝓤 H A any.signature (κ, tt) (q, tt)) ∷ []) ∵ enter ! (𝓣 .C) (𝓣 .Λ) opens (T′.lowered d ∷ P′.lowered p ∷ []) _ $
+          qed W (‵ (Lent κ (d .sheet)) ∷ raw (alive 𝓤 H A any.signature (κ, tt) (q, tt)) ∷ []) ∵ enter ! (𝓣 .C) (𝓣 .Λ) opening-mir (T′.lowered d ∷ P′.lowered p ∷ []) _ $
           alloc1 ! (λ l₀. alloc1 ! (λ l₁. alloc1 ! (λ l₂. alloc1 ! (λ l₃. alloc0 ! $ params1 ! $
           pass1 ! (init ! 4 refl wt) $ pass1 ! (init ! 2 refl (LL.lawful P.the-type P′.the-laws 𝓤 H A W .typed p _ is-p .0)) $ pass0 ! $
           assigns ! (of-opd ! (load ! (from ! (fld ! refl (stop !))) (look-in ! 4 (sub ! 0 refl (whole !))))) (from ! (stop !)) (init ! 0 refl (tt, wt .1 .0)) $
           -- [the locals, the last first; what the sheet owns; the token]
-          move ! (8 ∷ 9 ∷ []) $ calls 𝓤 H A W one.ended (one.clauses 𝓤 H A mem run) (((κ, tt), (q, tt), tt, (d .sheet, (p, tt)), (bytes (d .sheet) ∷ [], (P′.lowered p ∷ [], tt))), tt)
+          move ! (8 ∷ 9 ∷ []) $ calls 𝓤 H A W opening.ended (opening.clauses 𝓤 H A mem run) (((κ, tt), (q, tt), tt, (d .sheet, (p, tt)), (bytes (d .sheet) ∷ [], (P′.lowered p ∷ [], tt))), tt)
           (λ r. r ≡ openingAt (now (d .sheet)) (p .0)) (λ r e. id⊢ 𝓤 _) (fmOf 𝓤 H (W .laws) 𝓣) met refl (place-owned p is-p) (both 𝓤 (one-fact 𝓤 (known .0)) (one-fact 𝓤 within))
           (and-then ! (load ! (from ! (stop !)) (look ! 1 refl)) (and-then ! (load ! (from ! (stop !)) (look ! 3 refl)) (no-more !))) (λ u r h is.
           -- [the result; the token; the locals, the last first]
           land ! (from ! (stop !)) (init ! 8 refl (uint-lawful 𝓤 H A W w32 .typed r _ is .0)) $
           returns ! (look ! 8 refl) $ forget ! 2 refl $ forget ! 4 refl $ forget ! 6 refl $ forget ! 8 refl $
           move ! (8 ∷ 9 ∷ []) $ free1 ! $ move ! (6 ∷ 7 ∷ []) $ free1 ! $ move ! (4 ∷ 5 ∷ []) $ free1 ! $ move ! (2 ∷ 3 ∷ []) $ free1 ! $ free0 ! $
-          by ! (ends 𝓤 H A W any.ended (Looks Laid openingAt 𝓤) (entry Laid openingAt κ q d p) u r (tt, (tt, tt)) (one-fact 𝓤 h))))))))
+          by ! (ends 𝓤 H A W any.ended (LookupClauses Laid openingAt 𝓤) (entry Laid openingAt κ q d p) u r (tt, (tt, tt)) (one-fact 𝓤 h))))))))
 
   module _ (found : List ℕ → ℕ → ℕ) where
-    abbrev pub Sum : Contract 𝓤
-    Sum = tripleOf 𝓤 H A sum.signature (closing 𝓤 H A sum.ended (Sums found 𝓤))
+    abbrev pub Side : Contract 𝓤
+    Side = tripleOf 𝓤 H A side.signature (closing 𝓤 H A side.ended (SideClauses found 𝓤))
 
-    module _ (𝓣 : Tables 𝓤 H) (callee : Name) (met : Triple 𝓤 (𝓣 .C callee) Sum) where
-      abbrev sums : Fn
-      sums =
-          function (local (tyInt w64) valueLocal ∷ local (tyInt w64) valueLocal ∷ local (tyInt w64) valueLocal ∷ []) (seq (takes 3 0) (seq (takes 4 1) (seq (takes 5 2) (seq (takes 6 3)
+    module _ (𝓣 : Tables 𝓤 H) (callee : Name) (met : Triple 𝓤 (𝓣 .C callee) Side) where
+      abbrev side-mir : Fn
+      side-mir =
+          function (local (tyInt w64) valueLocal ∷ local (tyInt w64) valueLocal ∷ local (tyInt w64) valueLocal ∷ []) (seq (loads 3 0) (seq (loads 4 1) (seq (loads 5 2) (seq (loads 6 3)
           (seq (call callee (copy (place 3 []) ∷ copy (place 4 []) ∷ copy (place 5 []) ∷ copy (place 6 []) ∷ copy (place 2 []) ∷ []) (place 0 [])) return)))))
 
       abbrev Others : List RattleType
       Others = usize ∷ usize ∷ usize ∷ P.the-row ∷ []
 
-      pub sums-up : Meets 𝓤 H A any.signature (WpFn 𝓤 H (𝓣 .C) (𝓣 .Λ) sums) (closing 𝓤 H A any.ended (Looks Faultless found 𝓤))
-      sums-up =
-          looks-up Faultless found sums 𝓣 (λ κ q d p known wt is-p.
+      pub side-meets : Meets 𝓤 H A any.signature (WpFn 𝓤 H (𝓣 .C) (𝓣 .Λ) side-mir) (closing 𝓤 H A any.ended (LookupClauses Faultless found 𝓤))
+      side-meets =
+          lookup-meets Faultless found side-mir 𝓣 (λ κ q d p known wt is-p.
           let makes = uint-makes 𝓤 H A W w64 in
-          let passed : Vals sum.signature (κ, tt) = (bytes (d .sheet) ∷ [], (vint w64 (d .places) ∷ [], (vint w64 (d .transitions) ∷ [], (vint w64 (d .events) ∷ [], (P′.lowered p ∷ [], tt))))) in
-          qed W (‵ (Lent κ (d .sheet)) ∷ raw (alive 𝓤 H A any.signature (κ, tt) (q, tt)) ∷ []) ∵ enter ! (𝓣 .C) (𝓣 .Λ) sums (T′.lowered d ∷ P′.lowered p ∷ []) _ $
+          let passed : Vals side.signature (κ, tt) = (bytes (d .sheet) ∷ [], (vint w64 (d .places) ∷ [], (vint w64 (d .transitions) ∷ [], (vint w64 (d .events) ∷ [], (P′.lowered p ∷ [], tt))))) in
+          qed W (‵ (Lent κ (d .sheet)) ∷ raw (alive 𝓤 H A any.signature (κ, tt) (q, tt)) ∷ []) ∵ enter ! (𝓣 .C) (𝓣 .Λ) side-mir (T′.lowered d ∷ P′.lowered p ∷ []) _ $
           alloc1 ! (λ l₀. alloc1 ! (λ l₁. alloc1 ! (λ l₂. alloc1 ! (λ l₃. alloc1 ! (λ l₄. alloc1 ! (λ l₅. alloc1 ! (λ l₆. alloc0 ! $ params1 ! $
           pass1 ! (init ! 10 refl wt) $ pass1 ! (init ! 8 refl (LL.lawful P.the-type P′.the-laws 𝓤 H A W .typed p _ is-p .0)) $ pass0 ! $
           assigns ! (of-opd ! (load ! (from ! (fld ! refl (stop !))) (look-in ! 10 (sub ! 0 refl (whole !))))) (from ! (stop !)) (init ! 6 refl (tt, wt .1 .0)) $
@@ -203,7 +203,7 @@ module _ {M : Type 1} (𝓤 : URA M) (H : Heap 𝓤) (A : Atoms 𝓤) (W : Given
           assigns ! (of-opd ! (load ! (from ! (fld ! refl (stop !))) (look-in ! 10 (sub ! 2 refl (whole !))))) (from ! (stop !)) (init ! 2 refl (tt, wt .1 .1 .1 .0)) $
           assigns ! (of-opd ! (load ! (from ! (fld ! refl (stop !))) (look-in ! 10 (sub ! 3 refl (whole !))))) (from ! (stop !)) (init ! 0 refl (tt, wt .1 .1 .1 .1 .0)) $
           -- [the locals, the last first; what the sheet owns; the token]
-          move ! (14 ∷ 15 ∷ []) $ calls 𝓤 H A W sum.ended (Sums found 𝓤) (((κ, tt), (q, tt), tt, (d .sheet, (d .places, (d .transitions, (d .events, (p, tt))))), passed), tt)
+          move ! (14 ∷ 15 ∷ []) $ calls 𝓤 H A W side.ended (SideClauses found 𝓤) (((κ, tt), (q, tt), tt, (d .sheet, (d .places, (d .transitions, (d .events, (p, tt))))), passed), tt)
           (λ r. r ≡ found (now (d .sheet)) (p .0)) (λ r e. id⊢ 𝓤 _) (fmOf 𝓤 H (W .laws) 𝓣) met refl
           (owns-make 𝓤 H A Others (Ises Others) (makes, (makes, (makes, (LL.makes P.the-type P′.the-plain 𝓤 H A, tt)))) (d .places, (d .transitions, (d .events, (p, tt)))) _
           ((refl, wt .1 .1 .0 .fits), ((refl, wt .1 .1 .1 .0 .fits), ((refl, wt .1 .1 .1 .1 .0 .fits), (is-p, tt)))))
@@ -215,4 +215,4 @@ module _ {M : Type 1} (𝓤 : URA M) (H : Heap 𝓤) (A : Atoms 𝓤) (W : Given
           returns ! (look ! 14 refl) $ forget ! 2 refl $ forget ! 4 refl $ forget ! 6 refl $ forget ! 8 refl $ forget ! 10 refl $ forget ! 12 refl $ forget ! 14 refl $
           move ! (14 ∷ 15 ∷ []) $ free1 ! $ move ! (12 ∷ 13 ∷ []) $ free1 ! $ move ! (10 ∷ 11 ∷ []) $ free1 ! $ move ! (8 ∷ 9 ∷ []) $ free1 ! $
           move ! (6 ∷ 7 ∷ []) $ free1 ! $ move ! (4 ∷ 5 ∷ []) $ free1 ! $ move ! (2 ∷ 3 ∷ []) $ free1 ! $ free0 ! $
-          by ! (ends 𝓤 H A W any.ended (Looks Faultless found 𝓤) (entry Faultless found κ q d p) u r (tt, (tt, tt)) (one-fact 𝓤 h)))))))))))
+          by ! (ends 𝓤 H A W any.ended (LookupClauses Faultless found 𝓤) (entry Faultless found κ q d p) u r (tt, (tt, tt)) (one-fact 𝓤 h)))))))))))

@@ -23,7 +23,13 @@ same-length : tie.Need-same-length
 same-length c = search needs
 
 returns : tie.Need-returns
-returns c = (rw (line-is _ _ _ _ _ _ (c .before .before .before .before .before .before .opening-of .ensures) (c .before .before .before .before .before .gained-of .ensures) (c .before .before .before .before .lost-of .ensures) (c .before .before .before .before .before .before .before .before .before .pre .1 .0 .1)) (c .before .before .put-counts .ensures .0), c .before .before .put-counts .ensures .1)
+returns c =
+    let start : tie.Start = search in
+    let opened : tie.After-opening-of = search in
+    let plus : tie.After-gained-of = search in
+    let minus : tie.After-lost-of = search in
+    let put = c .before .before .put-counts .ensures in
+    (rw (line-is _ _ _ _ _ _ (opened .opening-of .ensures) (plus .gained-of .ensures) (minus .lost-of .ensures) (start .pre .1 .0 .1)) (put .0), put .1)
 
 pub put-place-spec : {M : Type 1} → statement M
 put-place-spec =

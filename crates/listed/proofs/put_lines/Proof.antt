@@ -48,20 +48,31 @@ put-totals-requires c κs = search needs
 
 put-verdict-requires : tie.Need-put-verdict-requires
 put-verdict-requires c κs =
-    let start : tie.Start = search in
-    (start .pre .0, ((c .before .before .before .before .before .before .before .before .before .before .before .before .before .before .before .entry-count2 .ensures .0, start .pre .1 .1 .1 .0), omega arith))
+    let start : tie.Start = search in (
+      start .pre .0,
+      (
+        (c .before .before .before .before .before .before .before .before .before .before .before .before .before .before .before .entry-count2 .ensures .0, start .pre .1 .1 .1 .0),
+        omega arith,
+      ),
+    )
 
 same-length : tie.Need-same-length
 same-length c = search needs
 
 returns : tie.Need-returns
 returns c =
-    let start : tie.Start = search in
-    let e = c .before .before .before .before .before .before .before .before .before .before .before .before .before .before .before .before .before .before .entry-count2 .ensures .0 in
-    let i = c .before .before .before .before .before .before .before .before .before .before .before .before .before .before .before .before .before .entry-count3 .ensures .0 in
+    let totalled = c .before .before .before .before .before .before in
+    let placed = totalled .before .before .before .before in
+    let planned = placed .before .before .before .before in
+    let freed = planned .before .before in
+    let paired = freed .before in
+    let counted = paired .before in
+    let start = counted .before .before .before .before .before in
+    let e = counted .entry-count2 .ensures .0 in
+    let i = paired .entry-count3 .ensures .0 in
     let totals = start .pre .1 .1 .0 in
-    rw (lines-are (now (start .args .s)) _ _ _ _ _ _ e i (free-told _ (known start) _ _ _ e i (c .before .before .before .before .before .before .before .before .before .before .before .before .before .before .before .before .free-count .ensures)) (totals .1) (totals .0) (start .pre .1 .1 .1 .0))
-    (put-then (put-then (put-then (c .before .before .before .before .before .before .before .before .before .before .before .before .before .before .put-plan .ensures .0) (c .before .before .before .before .before .before .before .before .before .before .put-places .ensures .0)) (c .before .before .before .before .before .before .put-totals .ensures .0)) (c .before .before .put-verdict .ensures))
+    rw (lines-are (now (start .args .s)) _ _ _ _ _ _ e i (free-told _ (known start) _ _ _ e i (freed .free-count .ensures)) (totals .1) (totals .0) (start .pre .1 .1 .1 .0))
+    (put-then (put-then (put-then (planned .put-plan .ensures .0) (placed .put-places .ensures .0)) (totalled .put-totals .ensures .0)) (c .before .before .put-verdict .ensures))
 
 pub put-lines-spec : {M : Type 1} → statement M
 put-lines-spec =

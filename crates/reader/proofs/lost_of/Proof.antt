@@ -4,7 +4,7 @@ use denote.Triple.Spec.{tripleOf}
 use denote.Triple.Table.{entered, cited}
 use Rattle.counts.specs.Ends.{lostAt}
 use Rattle.sheet.specs.Faultless.{Faultless}
-use Rattle.reader.proofs.Plain.{Made, Looked, finds-out}
+use Rattle.reader.proofs.Plain.{Read, Lookup, plain-meets}
 use Rattle.reader.proofs.read.Symbol as read-def
 use Rattle.reader.proofs.read.Symbol.{name as #read}
 use Rattle.reader.proofs.read.Met as read-thm
@@ -22,6 +22,6 @@ lost-of-spec 𝓤 H 𝓜 𝓖 𝓡 =
     let W = givenOf 𝓤 H 𝓜 𝓖 in
     let to = tables 𝓤 H 𝓜 𝓡 code.env in
     entered 𝓤 H (tripleOf 𝓤 H (𝓖 .A) own.signature (own.spec 𝓤 H (𝓖 .A) (𝓜 .mem) (𝓡 .run))) (to .C) (to .Λ) #own code.function (code.unfolded 𝓤 H 𝓜 𝓡)
-    (finds-out Faultless lostAt 𝓤 H (𝓖 .A) W (𝓜 .mem) (𝓡 .run) (λ s known. known .laid .limited .table) (tablesOf 𝓤 H 𝓜 to)
-    (cited 𝓤 H (Made Faultless lostAt 𝓤 H (𝓖 .A) W (𝓜 .mem) (𝓡 .run)) 𝓜 𝓡 code.env #read read-def.routine code.calls-reader·read (read-thm.met 𝓤 H 𝓜 𝓖 𝓡)) #callee
-    (cited 𝓤 H (Looked Faultless lostAt 𝓤 H (𝓖 .A) W (𝓜 .mem) (𝓡 .run)) 𝓜 𝓡 code.env #callee callee-def.routine code.calls-reader·lost (callee-thm.met 𝓤 H 𝓜 𝓖 𝓡)))
+    (plain-meets Faultless lostAt 𝓤 H (𝓖 .A) W (𝓜 .mem) (𝓡 .run) (λ s known. known .laid .limited .table) (tablesOf 𝓤 H 𝓜 to)
+    (cited 𝓤 H (Read Faultless lostAt 𝓤 H (𝓖 .A) W (𝓜 .mem) (𝓡 .run)) 𝓜 𝓡 code.env #read read-def.routine code.calls-reader·read (read-thm.met 𝓤 H 𝓜 𝓖 𝓡)) #callee
+    (cited 𝓤 H (Lookup Faultless lostAt 𝓤 H (𝓖 .A) W (𝓜 .mem) (𝓡 .run)) 𝓜 𝓡 code.env #callee callee-def.routine code.calls-reader·lost (callee-thm.met 𝓤 H 𝓜 𝓖 𝓡)))

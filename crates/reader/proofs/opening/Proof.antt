@@ -5,7 +5,7 @@ use denote.Triple.Table.{entered, cited}
 use Rattle.lookup.proofs.opening.Symbol as callee-def
 use Rattle.lookup.proofs.opening.Symbol.{name as #callee}
 use Rattle.lookup.proofs.opening.Met as callee-thm
-use Rattle.reader.proofs.Lookups.{One, opens-up}
+use Rattle.reader.proofs.Lookups.{Opening, opening-meets}
 use Rattle.reader.proofs.opening.Key.{name as #own}
 use Rattle.reader.proofs.opening as own
 use Rattle.reader.proofs.opening.Statement as stated
@@ -17,5 +17,5 @@ opening-spec 𝓤 H 𝓜 𝓖 𝓡 =
     let W = givenOf 𝓤 H 𝓜 𝓖 in
     let to = tables 𝓤 H 𝓜 𝓡 code.env in
     entered 𝓤 H (tripleOf 𝓤 H (𝓖 .A) own.signature (own.spec 𝓤 H (𝓖 .A) (𝓜 .mem) (𝓡 .run))) (to .C) (to .Λ) #own code.function (code.unfolded 𝓤 H 𝓜 𝓡)
-    (opens-up 𝓤 H (𝓖 .A) W (𝓜 .mem) (𝓡 .run) (tablesOf 𝓤 H 𝓜 to) #callee
-    (cited 𝓤 H (One 𝓤 H (𝓖 .A) W (𝓜 .mem) (𝓡 .run)) 𝓜 𝓡 code.env #callee callee-def.routine code.calls-lookup·opening (callee-thm.met 𝓤 H 𝓜 𝓖 𝓡)))
+    (opening-meets 𝓤 H (𝓖 .A) W (𝓜 .mem) (𝓡 .run) (tablesOf 𝓤 H 𝓜 to) #callee
+    (cited 𝓤 H (Opening 𝓤 H (𝓖 .A) W (𝓜 .mem) (𝓡 .run)) 𝓜 𝓡 code.env #callee callee-def.routine code.calls-lookup·opening (callee-thm.met 𝓤 H 𝓜 𝓖 𝓡)))
