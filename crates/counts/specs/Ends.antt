@@ -17,7 +17,14 @@ gainedBy s p n = openingAt s p + sum n (λ v. givesAt s (labelAt s v) p)
 unfoldable pub lostBy : List ℕ → ℕ → ℕ → ℕ
 lostBy s p n = sum n (λ v. takesAt s (labelAt s v) p)
 
-pub end-is : (s : List ℕ) (p : ℕ) → endCount (netOf s) (planOf s) p ≡ subℕ (gainedBy s p (eventsOf s)) (lostBy s p (eventsOf s))
+-- what all events do
+abbrev pub gainedAt : List ℕ → ℕ → ℕ
+gainedAt s p = gainedBy s p (eventsOf s)
+
+abbrev pub lostAt : List ℕ → ℕ → ℕ
+lostAt s p = lostBy s p (eventsOf s)
+
+pub end-is : (s : List ℕ) (p : ℕ) → endCount (netOf s) (planOf s) p ≡ subℕ (gainedAt s p) (lostAt s p)
 unfolding endCount tokens gainedBy lostBy
 end-is s p = simp over-full (tokens-minus (openingAt s p) (sum (eventsOf s) (λ v. givesAt s (labelAt s v) p)) (sum (eventsOf s) (λ v. takesAt s (labelAt s v) p)))
 

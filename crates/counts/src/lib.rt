@@ -1,16 +1,15 @@
 // What the listing counts besides what is missing: the free count of a plan, and the two sides of a place's end count.
 ghost use Prim.Native.Nat.{_+_, _*_, _<_, _≤_};
 ghost use mathlib.Core.Path.{_≡_};
-ghost use Rattle.sheet.specs.Table.{eventsOf};
+ghost use Rattle.sheet.specs.Table.{placesOf, transitionsOf, eventsOf};
 ghost use Rattle.sheet.specs.Faultless.{Faultless};
-ghost use Rattle.reader.specs.Reads.{Reads};
-ghost use Rattle.counts.specs.Ends.{gainedBy, lostBy};
+ghost use Rattle.counts.specs.Ends.{gainedAt, lostAt};
 use lookup::Event;
 use lookup::Place;
 use lookup::gives;
 use lookup::label;
+use lookup::opening;
 use lookup::takes;
-use reader::opening_of;
 
 // The free count of a plan without faults: half of all ordered pairs of two events, less the given pairs.
 pub fn free_count(events: usize, pairs: usize) -> u32
@@ -22,19 +21,13 @@ pub fn free_count(events: usize, pairs: usize) -> u32
 }
 
 // The opening count of a place and what all events give to it.
-pub fn gained(
-    s: &[u8],
-    places: usize,
-    transitions: usize,
-    events: usize,
-    pairs: usize,
-    p: Place,
-) -> u32
+pub fn gained(s: &[u8], places: usize, transitions: usize, events: usize, p: Place) -> u32
     requires { ⌜ Faultless (now s) ⌝ }
-    requires { ⌜ Reads (now s) places transitions events pairs × (p .0 < places) ⌝ }
-    ensures { λ r. ⌜ r ≡ gainedBy (now (s .entry)) (p .0) (eventsOf (now (s .entry))) ⌝ }
+    requires { ⌜ (places ≡ placesOf (now s)) × (transitions ≡ transitionsOf (now s)) × (events ≡ eventsOf (now s)) ⌝ }
+    requires { ⌜ p .0 < places ⌝ }
+    ensures { λ r. ⌜ r ≡ gainedAt (now (s .entry)) (p .0) ⌝ }
 {
-    let mut sum = opening_of(s, places, transitions, events, pairs, p);
+    let mut sum = opening(s, p);
     for v in 0..events {
         let t = label(s, places, transitions, Event(v));
         sum += gives(s, places, t, p);
@@ -43,17 +36,11 @@ pub fn gained(
 }
 
 // What all events take from a place.
-pub fn lost(
-    s: &[u8],
-    places: usize,
-    transitions: usize,
-    events: usize,
-    pairs: usize,
-    p: Place,
-) -> u32
+pub fn lost(s: &[u8], places: usize, transitions: usize, events: usize, p: Place) -> u32
     requires { ⌜ Faultless (now s) ⌝ }
-    requires { ⌜ Reads (now s) places transitions events pairs × (p .0 < places) ⌝ }
-    ensures { λ r. ⌜ r ≡ lostBy (now (s .entry)) (p .0) (eventsOf (now (s .entry))) ⌝ }
+    requires { ⌜ (places ≡ placesOf (now s)) × (transitions ≡ transitionsOf (now s)) × (events ≡ eventsOf (now s)) ⌝ }
+    requires { ⌜ p .0 < places ⌝ }
+    ensures { λ r. ⌜ r ≡ lostAt (now (s .entry)) (p .0) ⌝ }
 {
     let mut sum: u32 = 0;
     for v in 0..events {

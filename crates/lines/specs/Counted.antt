@@ -5,16 +5,17 @@ use mathlib.Core.Path.{_≡_, sym, ap, ap₂, _∙_}
 use lib.IntN.{ℤ, subℕ}
 use lib.ListN.{length, getD}
 use Rattle.plan.specs.Prefix.{missing}
-use Rattle.sheet.specs.Table.{placesOf, eventsOf}
+use Rattle.sheet.specs.Table.{placesOf}
 use Rattle.sheet.specs.Items.{openingAt, netOf, planOf}
-use Rattle.counts.specs.Ends.{gainedBy, lostBy, end-is}
+use Rattle.counts.specs.Ends.{gainedAt, lostAt, end-is}
 use Rattle.lines.specs.Listing.{placeLine, lineOf}
 
 pub record Counted (s row : List ℕ) : Type 0 where
   pub long : placesOf s ≤ length row
   pub counts : (p : ℕ) → p < placesOf s → getD row p 0 ≡ missing (netOf s) (planOf s) p
 
-pub line-is : (s : List ℕ) (p opening gained lost m : ℕ) → opening ≡ openingAt s p → gained ≡ gainedBy s p (eventsOf s) → lost ≡ lostBy s p (eventsOf s) → m ≡ missing (netOf s) (planOf s) p → lineOf (netOf s) (planOf s) p ≡ placeLine p opening (subℕ gained lost) m
+pub line-is : (s : List ℕ) (p opening gained lost m : ℕ) → opening ≡ openingAt s p → gained ≡ gainedAt s p → lost ≡ lostAt s p → m ≡ missing (netOf s) (planOf s) p
+    → lineOf (netOf s) (planOf s) p ≡ placeLine p opening (subℕ gained lost) m
 unfolding lineOf
 line-is s p opening gained lost m o g l c =
     ap (λ (z : ℤ). placeLine p (openingAt s p) z (missing (netOf s) (planOf s) p)) (end-is s p ∙ sym (ap₂ subℕ g l)) ∙ ap₂ (λ (a b : ℕ). placeLine p a (subℕ gained lost) b) (sym o) (sym c)

@@ -7,14 +7,13 @@ ghost use Rattle.plan.specs.Prefix.{missing};
 ghost use Rattle.sheet.specs.Table.{placesOf};
 ghost use Rattle.sheet.specs.Items.{netOf, planOf};
 ghost use Rattle.sheet.specs.Faultless.{Faultless};
-ghost use Rattle.reader.specs.Reads.{Reads};
 ghost use Rattle.text.specs.Put.{Put};
 ghost use Rattle.lines.specs.Listing.{planLine, placeLine, totalsLine, each, eventIn, doneEvents, firstLine, runsLine, lineOf, refusedLine};
 ghost use Rattle.lines.specs.Counted.{Counted};
 ghost use Rattle.lines.specs.Marked.{marked, eventText};
-use counts::gained;
-use counts::lost;
 use lookup::Place;
+use reader::gained_of;
+use reader::lost_of;
 use reader::opening_of;
 use text::put_field;
 use text::put_signed;
@@ -52,59 +51,28 @@ fn put_counts(
 }
 
 // The line of the place p, with its missing count.
-fn put_place(
-    s: &[u8],
-    places: usize,
-    transitions: usize,
-    events: usize,
-    pairs: usize,
-    p: usize,
-    m: u32,
-    row: &mut [u8],
-    at: usize,
-) -> usize
+fn put_place(s: &[u8], p: usize, m: u32, row: &mut [u8], at: usize) -> usize
     requires { ⌜ Faultless (now s) ⌝ }
-    requires { ⌜ Reads (now s) places transitions events pairs × (p < places) ⌝ }
-    requires { ⌜ m ≡ missing (netOf (now s)) (planOf (now s)) p ⌝ }
+    requires { ⌜ (p < placesOf (now s)) × (m ≡ missing (netOf (now s)) (planOf (now s)) p) ⌝ }
     requires { ⌜ at + 68 ≤ length (now row) ⌝ }
     ensures { λ r. ⌜ Put (now (row .entry)) (now (row .exit)) at (lineOf (netOf (now (s .entry))) (planOf (now (s .entry))) p) r × (r ≤ at + 68) ⌝ }
 {
-    let opening = opening_of(s, places, transitions, events, pairs, Place(p));
-    let plus = gained(s, places, transitions, events, pairs, Place(p));
-    let minus = lost(s, places, transitions, events, pairs, Place(p));
+    let opening = opening_of(s, Place(p));
+    let plus = gained_of(s, Place(p));
+    let minus = lost_of(s, Place(p));
     put_counts(row, at, p as u32, opening, plus, minus, m)
 }
 
 // The lines of all places, with their missing counts in a row.
-pub fn put_places(
-    s: &[u8],
-    places: usize,
-    transitions: usize,
-    events: usize,
-    pairs: usize,
-    counts: &[u32],
-    row: &mut [u8],
-    at: usize,
-) -> usize
+pub fn put_places(s: &[u8], places: usize, counts: &[u32], row: &mut [u8], at: usize) -> usize
     requires { ⌜ Faultless (now s) ⌝ }
-    requires { ⌜ Reads (now s) places transitions events pairs ⌝ }
-    requires { ⌜ Counted (now s) (now counts) ⌝ }
+    requires { ⌜ (places ≡ placesOf (now s)) × Counted (now s) (now counts) ⌝ }
     requires { ⌜ at + 4352 ≤ length (now row) ⌝ }
     ensures { λ r. ⌜ Put (now (row .entry)) (now (row .exit)) at (each (placesOf (now (s .entry))) (lineOf (netOf (now (s .entry))) (planOf (now (s .entry))))) r × (r ≤ at + 4352) ⌝ }
 {
     let mut end = at;
     for p in 0..places {
-        end = put_place(
-            s,
-            places,
-            transitions,
-            events,
-            pairs,
-            p,
-            counts[p],
-            row,
-            end,
-        );
+        end = put_place(s, p, counts[p], row, end);
     }
     end
 }

@@ -66,12 +66,11 @@ fn put_lines(s: &[u8], counts: &[u32], total: u32, short: u32, v: Verdict, row: 
     ensures { λ r. ⌜ Put (now (row .entry)) (now (row .exit)) 0 (linesOf (netOf (now (s .entry))) (planOf (now (s .entry)))) r ⌝ }
 {
     let places = entry_count(s, 0);
-    let transitions = entry_count(s, 1);
     let events = entry_count(s, 2);
     let pairs = entry_count(s, 3);
     let free = free_count(events, pairs);
     let a = put_plan(row, 0, events as u32, pairs as u32, free);
-    let b = put_places(s, places, transitions, events, pairs, counts, row, a);
+    let b = put_places(s, places, counts, row, a);
     let c = put_totals(row, b, short, total);
     put_verdict(s, events, v, row, c)
 }

@@ -1,1 +1,3 @@
-pub mod Apart
+pub mod Walk
+pub mod Lookups
+pub mod Plain

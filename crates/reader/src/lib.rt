@@ -1,92 +1,82 @@
-// The reader of a sheet: the lent bytes together with the sheet's four counts, and thin lookups over it. Each takes the reader apart and
-// leaves the work to the lookup of the same name on bytes and plain counts. Faults 1 to 4 are absent.
-ghost use Prim.Native.Nat.{_<_};
+// The reader of a sheet: the lent bytes together with the sheet's four counts. Its fields are private, so that `read` alone makes one for
+// another crate. Each lookup takes the reader apart and leaves the work to the function of the same name on bytes and plain counts.
+ghost use Prim.Native.Nat.{_<_, _≤_};
 ghost use mathlib.Core.Path.{_≡_};
-ghost use Rattle.sheet.specs.Items.{openingAt, takesAt, givesAt, labelAt, earlierAt, laterAt};
+ghost use lib.ListN.{length};
+ghost use Rattle.sheet.specs.Table.{placesOf};
+ghost use Rattle.sheet.specs.Items.{openingAt};
+ghost use Rattle.sheet.specs.Laid.{Laid};
+ghost use Rattle.sheet.specs.Faultless.{Faultless};
+ghost use Rattle.counts.specs.Ends.{gainedAt, lostAt};
 ghost use Rattle.reader.specs.Reads.{Reads, readerOf};
-use lookup::Event;
+use layout::counts_of;
 use lookup::Place;
-use lookup::Transition;
 
 pub struct Reader<'a> {
-    pub sheet: &'a [u8],
-    pub places: usize,
-    pub transitions: usize,
-    pub events: usize,
-    pub pairs: usize,
-}
-
-pub fn new<'a>(
     sheet: &'a [u8],
     places: usize,
     transitions: usize,
     events: usize,
     pairs: usize,
-) -> Reader<'a>
-    ensures { λ r. ⌜ r ≡ readerOf (sheet .entry) places transitions events pairs ⌝ }
+}
+
+// The reader of a sheet, from the bytes alone.
+pub fn read<'a>(sheet: &'a [u8]) -> Reader<'a>
+    requires { ⌜ 32 ≤ length (now sheet) ⌝ }
+    ensures { λ r. ⌜ r ≡ readerOf (sheet .entry) ⌝ }
 {
+    let counts = counts_of(sheet);
     Reader {
         sheet,
-        places,
-        transitions,
-        events,
-        pairs,
+        places: counts.places,
+        transitions: counts.transitions,
+        events: counts.events,
+        pairs: counts.pairs,
     }
 }
 
+// The opening count of a place.
 pub fn opening<'a>(r: Reader<'a>, p: Place) -> u32
-    requires { ⌜ Reads (now (r .sheet)) (r .places) (r .transitions) (r .events) (r .pairs) × (p .0 < r .places) ⌝ }
+    requires { ⌜ Laid (now (r .sheet)) × Reads r × (p .0 < r .places) ⌝ }
     ensures { λ n. ⌜ n ≡ openingAt (now (r .entry .sheet)) (p .0) ⌝ }
 {
     lookup::opening(r.sheet, p)
 }
 
-pub fn takes<'a>(r: Reader<'a>, t: Transition, p: Place) -> u32
-    requires { ⌜ Reads (now (r .sheet)) (r .places) (r .transitions) (r .events) (r .pairs) × ((t .0 < r .transitions) × (p .0 < r .places)) ⌝ }
-    ensures { λ n. ⌜ n ≡ takesAt (now (r .entry .sheet)) (t .0) (p .0) ⌝ }
+// The opening count of a place and what all events give to it.
+pub fn gained<'a>(r: Reader<'a>, p: Place) -> u32
+    requires { ⌜ Faultless (now (r .sheet)) × Reads r × (p .0 < r .places) ⌝ }
+    ensures { λ n. ⌜ n ≡ gainedAt (now (r .entry .sheet)) (p .0) ⌝ }
 {
-    lookup::takes(r.sheet, r.places, t, p)
+    counts::gained(r.sheet, r.places, r.transitions, r.events, p)
 }
 
-pub fn gives<'a>(r: Reader<'a>, t: Transition, p: Place) -> u32
-    requires { ⌜ Reads (now (r .sheet)) (r .places) (r .transitions) (r .events) (r .pairs) × ((t .0 < r .transitions) × (p .0 < r .places)) ⌝ }
-    ensures { λ n. ⌜ n ≡ givesAt (now (r .entry .sheet)) (t .0) (p .0) ⌝ }
+// What all events take from a place.
+pub fn lost<'a>(r: Reader<'a>, p: Place) -> u32
+    requires { ⌜ Faultless (now (r .sheet)) × Reads r × (p .0 < r .places) ⌝ }
+    ensures { λ n. ⌜ n ≡ lostAt (now (r .entry .sheet)) (p .0) ⌝ }
 {
-    lookup::gives(r.sheet, r.places, t, p)
+    counts::lost(r.sheet, r.places, r.transitions, r.events, p)
 }
 
-pub fn label<'a>(r: Reader<'a>, v: Event) -> Transition
-    requires { ⌜ Reads (now (r .sheet)) (r .places) (r .transitions) (r .events) (r .pairs) × (v .0 < r .events) ⌝ }
-    ensures { λ t. ⌜ t .0 ≡ labelAt (now (r .entry .sheet)) (v .0) ⌝ }
-{
-    lookup::label(r.sheet, r.places, r.transitions, v)
-}
-
-pub fn earlier<'a>(r: Reader<'a>, i: usize) -> Event
-    requires { ⌜ Reads (now (r .sheet)) (r .places) (r .transitions) (r .events) (r .pairs) × (i < r .pairs) ⌝ }
-    ensures { λ v. ⌜ v .0 ≡ earlierAt (now (r .entry .sheet)) i ⌝ }
-{
-    lookup::earlier(r.sheet, r.places, r.transitions, r.events, i)
-}
-
-pub fn later<'a>(r: Reader<'a>, i: usize) -> Event
-    requires { ⌜ Reads (now (r .sheet)) (r .places) (r .transitions) (r .events) (r .pairs) × (i < r .pairs) ⌝ }
-    ensures { λ v. ⌜ v .0 ≡ laterAt (now (r .entry .sheet)) i ⌝ }
-{
-    lookup::later(r.sheet, r.places, r.transitions, r.events, i)
-}
-
-// The opening count of a place, for callers that hold no reader.
-pub fn opening_of(
-    sheet: &[u8],
-    places: usize,
-    transitions: usize,
-    events: usize,
-    pairs: usize,
-    p: Place,
-) -> u32
-    requires { ⌜ Reads (now sheet) places transitions events pairs × (p .0 < places) ⌝ }
+// The same for callers that hold no reader.
+pub fn opening_of(sheet: &[u8], p: Place) -> u32
+    requires { ⌜ Laid (now sheet) × (p .0 < placesOf (now sheet)) ⌝ }
     ensures { λ n. ⌜ n ≡ openingAt (now (sheet .entry)) (p .0) ⌝ }
 {
-    opening(new(sheet, places, transitions, events, pairs), p)
+    opening(read(sheet), p)
+}
+
+pub fn gained_of(sheet: &[u8], p: Place) -> u32
+    requires { ⌜ Faultless (now sheet) × (p .0 < placesOf (now sheet)) ⌝ }
+    ensures { λ n. ⌜ n ≡ gainedAt (now (sheet .entry)) (p .0) ⌝ }
+{
+    gained(read(sheet), p)
+}
+
+pub fn lost_of(sheet: &[u8], p: Place) -> u32
+    requires { ⌜ Faultless (now sheet) × (p .0 < placesOf (now sheet)) ⌝ }
+    ensures { λ n. ⌜ n ≡ lostAt (now (sheet .entry)) (p .0) ⌝ }
+{
+    lost(read(sheet), p)
 }

@@ -10,31 +10,31 @@ use Rattle.counts.proofs.gained.Statement.{statement}
 use Rattle.counts.proofs.gained.Tie as tie
 
 abbrev Inv-loop : tie.InvT-loop
-Inv-loop s places transitions events pairs p sum₀ v₀ sum v = (v ≤ events) × (sum ≡ gainedBy s (p .0) v) × (sum ≤ 1000000 + 1000 * v)
+Inv-loop s places transitions events p sum₀ v₀ sum v = (v ≤ events) × (sum ≡ gainedBy s (p .0) v) × (sum ≤ 1000000 + 1000 * v)
 
 abbrev μ-loop : tie.MeasureT-loop
-μ-loop s places transitions events pairs p sum₀ v₀ sum v = events - v
+μ-loop s places transitions events p sum₀ v₀ sum v = events - v
 
-opening-of-requires : tie.Need-opening-of-requires Inv-loop μ-loop
-opening-of-requires c κs = c .before .pre .1
+opening-requires : tie.Need-opening-requires Inv-loop μ-loop
+opening-requires c κs = search needs
 
 loop-holds : tie.Need-loop-holds Inv-loop μ-loop
 loop-holds c =
     let start = c .before .before in (
       omega arith,
-      c .opening-of .ensures ∙ gained-start (now (start .args .s)) (start .args .p .0),
-      omega (arith, c .opening-of .ensures, start .pre .0 .openings (start .args .p .0) (omega arith)),
+      c .opening .ensures ∙ gained-start (now (start .args .s)) (start .args .p .0),
+      omega (arith, c .opening .ensures, start .pre .0 .openings (start .args .p .0) (omega arith)),
     )
 
 label-requires : tie.Need-label-requires Inv-loop μ-loop
 label-requires c κs =
     let pre = c .before .before .before .before .pre in
-    (pre .0 .laid, ((pre .1 .0 .places-is, pre .1 .0 .transitions-is), omega arith))
+    (pre .0 .laid, ((pre .1 .0 .0, pre .1 .0 .1), omega arith))
 
 gives-requires : tie.Need-gives-requires Inv-loop μ-loop
 gives-requires c κs =
     let pre = c .before .before .before .before .before .pre in
-    (pre .0 .laid, (pre .1 .0 .places-is, (omega (arith, pre .0 .labels (c .before .before .loop .v) (omega arith)), pre .1 .1)))
+    (pre .0 .laid, (pre .1 .0 .0, (omega (arith, pre .0 .labels (c .before .before .loop .v) (omega arith)), pre .1 .1)))
 
 -- at most 1,000 at each event
 weight : (c : tie.After-gives Inv-loop μ-loop) → c .gives .result ≤ 1000
@@ -66,7 +66,7 @@ gained-spec =
     (tie.spec
     Inv-loop
     μ-loop
-    opening-of-requires
+    opening-requires
     loop-holds
     label-requires
     gives-requires

@@ -10,10 +10,10 @@ use Rattle.counts.proofs.lost.Statement.{statement}
 use Rattle.counts.proofs.lost.Tie as tie
 
 abbrev Inv-loop : tie.InvT-loop
-Inv-loop s places transitions events pairs p sum₀ v₀ sum v = (v ≤ events) × (sum ≡ lostBy s (p .0) v) × (sum ≤ 1000 * v)
+Inv-loop s places transitions events p sum₀ v₀ sum v = (v ≤ events) × (sum ≡ lostBy s (p .0) v) × (sum ≤ 1000 * v)
 
 abbrev μ-loop : tie.MeasureT-loop
-μ-loop s places transitions events pairs p sum₀ v₀ sum v = events - v
+μ-loop s places transitions events p sum₀ v₀ sum v = events - v
 
 loop-holds : tie.Need-loop-holds Inv-loop μ-loop
 loop-holds c = (omega arith, lost-start (now (c .before .args .s)) (c .before .args .p .0), omega arith)
@@ -21,12 +21,12 @@ loop-holds c = (omega arith, lost-start (now (c .before .args .s)) (c .before .a
 label-requires : tie.Need-label-requires Inv-loop μ-loop
 label-requires c κs =
     let pre = c .before .before .before .pre in
-    (pre .0 .laid, ((pre .1 .0 .places-is, pre .1 .0 .transitions-is), omega arith))
+    (pre .0 .laid, ((pre .1 .0 .0, pre .1 .0 .1), omega arith))
 
 takes-requires : tie.Need-takes-requires Inv-loop μ-loop
 takes-requires c κs =
     let pre = c .before .before .before .before .pre in
-    (pre .0 .laid, (pre .1 .0 .places-is, (omega (arith, pre .0 .labels (c .before .before .loop .v) (omega arith)), pre .1 .1)))
+    (pre .0 .laid, (pre .1 .0 .0, (omega (arith, pre .0 .labels (c .before .before .loop .v) (omega arith)), pre .1 .1)))
 
 -- at most 1,000 at each event
 weight : (c : tie.After-takes Inv-loop μ-loop) → c .takes .result ≤ 1000

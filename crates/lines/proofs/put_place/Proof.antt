@@ -7,11 +7,11 @@ use Rattle.lines.proofs.put_place.Tie as tie
 opening-of-requires : tie.Need-opening-of-requires
 opening-of-requires c κs = search needs
 
-gained-requires : tie.Need-gained-requires
-gained-requires c κs = search needs
+gained-of-requires : tie.Need-gained-of-requires
+gained-of-requires c κs = search needs
 
-lost-requires : tie.Need-lost-requires
-lost-requires c κs = search needs
+lost-of-requires : tie.Need-lost-of-requires
+lost-of-requires c κs = search needs
 
 cast-put-counts : tie.Need-cast-put-counts
 cast-put-counts c = search needs
@@ -23,15 +23,21 @@ same-length : tie.Need-same-length
 same-length c = search needs
 
 returns : tie.Need-returns
-returns c = (rw (line-is _ _ _ _ _ _ (c .before .before .before .before .before .before .opening-of .ensures) (c .before .before .before .before .before .gained .ensures) (c .before .before .before .before .lost .ensures) (c .before .before .before .before .before .before .before .before .before .pre .1 .1 .0)) (c .before .before .put-counts .ensures .0), c .before .before .put-counts .ensures .1)
+returns c =
+    let start : tie.Start = search in
+    let opened : tie.After-opening-of = search in
+    let plus : tie.After-gained-of = search in
+    let minus : tie.After-lost-of = search in
+    let put = c .before .before .put-counts .ensures in
+    (rw (line-is _ _ _ _ _ _ (opened .opening-of .ensures) (plus .gained-of .ensures) (minus .lost-of .ensures) (start .pre .1 .0 .1)) (put .0), put .1)
 
 pub put-place-spec : {M : Type 1} → statement M
 put-place-spec =
     tie.close
     (tie.spec
     opening-of-requires
-    gained-requires
-    lost-requires
+    gained-of-requires
+    lost-of-requires
     cast-put-counts
     put-counts-requires
     same-length

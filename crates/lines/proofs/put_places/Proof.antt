@@ -11,10 +11,10 @@ use Rattle.lines.proofs.put_places.Statement.{statement}
 use Rattle.lines.proofs.put_places.Tie as tie
 
 abbrev Inv-loop : tie.InvT-loop
-Inv-loop s places transitions events pairs counts row₀ at end₀ p₀ row end p = (p ≤ places) × Put row₀ row at (each p (lineOf (netOf s) (planOf s))) end × (end ≤ at + 68 * p)
+Inv-loop s places counts row₀ at end₀ p₀ row end p = (p ≤ places) × Put row₀ row at (each p (lineOf (netOf s) (planOf s))) end × (end ≤ at + 68 * p)
 
 abbrev μ-loop : tie.MeasureT-loop
-μ-loop s places transitions events pairs counts row₀ at end₀ p₀ row end p = places - p
+μ-loop s places counts row₀ at end₀ p₀ row end p = places - p
 
 loop-holds : tie.Need-loop-holds Inv-loop μ-loop
 loop-holds c =
@@ -35,11 +35,8 @@ put-place-requires c κs =
     let start = c .before .before .before .before .before .before .before in (
       start .pre .0,
       (
-        (start .pre .1 .0, omega arith),
-        (
-          start .pre .1 .1 .0 .counts (c .before .before .before .loop .p) (omega arith),
-          omega arith,
-        ),
+        (omega arith, start .pre .1 .0 .1 .counts (c .before .before .before .loop .p) (omega arith)),
+        omega arith,
       ),
     )
 

@@ -5,7 +5,6 @@ use mathlib.Core.Path.{ap}
 use borrow.Author.Needs.{needs}
 use denote.Ref.{now}
 use Rattle.sheet.specs.Faultless.{Faultless, faultless}
-use Rattle.reader.specs.Reads.{Reads}
 use Rattle.text.specs.Put.{put-then}
 use Rattle.listed.proofs.Judging.{free-of, free-told, lines-are}
 use Rattle.listed.proofs.put_lines.Statement.{statement}
@@ -23,14 +22,11 @@ entry-count-requires-2 c κs = (omega arith, known (c .before .before .before .b
 entry-count-requires-3 : tie.Need-entry-count-requires-3
 entry-count-requires-3 c κs = (omega arith, known (c .before .before .before .before .before) .laid .limited .table)
 
-entry-count-requires-4 : tie.Need-entry-count-requires-4
-entry-count-requires-4 c κs = (omega arith, known (c .before .before .before .before .before .before) .laid .limited .table)
-
 free-count-requires : tie.Need-free-count-requires
 free-count-requires c κs =
-    let k = known (c .before .before .before .before .before .before .before) in (
+    let k = known (c .before .before .before .before .before .before) in (
       omega (arith, k .laid .limited .events),
-      omega (arith, free-of _ k, ap (λ (n : ℕ). n * n) (c .before .entry-count3 .ensures .0)),
+      omega (arith, free-of _ k, ap (λ (n : ℕ). n * n) (c .before .entry-count2 .ensures .0)),
     )
 
 cast-put-plan : tie.Need-cast-put-plan
@@ -44,35 +40,39 @@ put-plan-requires c κs = search needs
 
 put-places-requires : tie.Need-put-places-requires
 put-places-requires c κs =
-    let start = c .before .before .before .before .before .before .before .before .before .before .before .before .before in
-    let reads : Reads (now (start .args .s)) _ _ _ _ = record {
-      laid = known start .laid;
-      places-is = c .before .before .before .before .before .before .before .before .before .entry-count .ensures .0;
-      transitions-is = c .before .before .before .before .before .before .before .before .entry-count2 .ensures .0;
-      events-is = c .before .before .before .before .before .before .before .entry-count3 .ensures .0;
-      pairs-is = c .before .before .before .before .before .before .entry-count4 .ensures .0;
-    } in
-    (known start, (reads, (start .pre .1 .0, omega arith)))
+    let start : tie.Start = search in
+    (known start, ((c .before .before .before .before .before .before .before .before .entry-count .ensures .0, start .pre .1 .0), omega arith))
 
 put-totals-requires : tie.Need-put-totals-requires
 put-totals-requires c κs = search needs
 
 put-verdict-requires : tie.Need-put-verdict-requires
 put-verdict-requires c κs =
-    let start = c .before .before .before .before .before .before .before .before .before .before .before .before .before .before .before .before .before .before .before .before .before in
-    (start .pre .0, ((c .before .before .before .before .before .before .before .before .before .before .before .before .before .before .before .entry-count3 .ensures .0, start .pre .1 .1 .1 .0), omega arith))
+    let start : tie.Start = search in (
+      start .pre .0,
+      (
+        (c .before .before .before .before .before .before .before .before .before .before .before .before .before .before .before .entry-count2 .ensures .0, start .pre .1 .1 .1 .0),
+        omega arith,
+      ),
+    )
 
 same-length : tie.Need-same-length
 same-length c = search needs
 
 returns : tie.Need-returns
 returns c =
-    let start = c .before .before .before .before .before .before .before .before .before .before .before .before .before .before .before .before .before .before .before .before .before .before .before .before in
-    let e = c .before .before .before .before .before .before .before .before .before .before .before .before .before .before .before .before .before .before .entry-count3 .ensures .0 in
-    let i = c .before .before .before .before .before .before .before .before .before .before .before .before .before .before .before .before .before .entry-count4 .ensures .0 in
+    let totalled = c .before .before .before .before .before .before in
+    let placed = totalled .before .before .before .before in
+    let planned = placed .before .before .before .before in
+    let freed = planned .before .before in
+    let paired = freed .before in
+    let counted = paired .before in
+    let start = counted .before .before .before .before .before in
+    let e = counted .entry-count2 .ensures .0 in
+    let i = paired .entry-count3 .ensures .0 in
     let totals = start .pre .1 .1 .0 in
-    rw (lines-are (now (start .args .s)) _ _ _ _ _ _ e i (free-told _ (known start) _ _ _ e i (c .before .before .before .before .before .before .before .before .before .before .before .before .before .before .before .before .free-count .ensures)) (totals .1) (totals .0) (start .pre .1 .1 .1 .0))
-    (put-then (put-then (put-then (c .before .before .before .before .before .before .before .before .before .before .before .before .before .before .put-plan .ensures .0) (c .before .before .before .before .before .before .before .before .before .before .put-places .ensures .0)) (c .before .before .before .before .before .before .put-totals .ensures .0)) (c .before .before .put-verdict .ensures))
+    rw (lines-are (now (start .args .s)) _ _ _ _ _ _ e i (free-told _ (known start) _ _ _ e i (freed .free-count .ensures)) (totals .1) (totals .0) (start .pre .1 .1 .1 .0))
+    (put-then (put-then (put-then (planned .put-plan .ensures .0) (placed .put-places .ensures .0)) (totalled .put-totals .ensures .0)) (c .before .before .put-verdict .ensures))
 
 pub put-lines-spec : {M : Type 1} → statement M
 put-lines-spec =
@@ -81,7 +81,6 @@ put-lines-spec =
     entry-count-requires
     entry-count-requires-2
     entry-count-requires-3
-    entry-count-requires-4
     free-count-requires
     cast-put-plan
     cast-put-plan-2
