@@ -187,5 +187,6 @@ const struct kind kinds[] = {
     {"alternating paths", FEW_PAIRS, AS_MADE, order_paths},
     {"small fans in", FEW_PAIRS, AS_MADE, order_small_fans_in},
     {"small fans out", FEW_PAIRS, AS_MADE, order_small_fans_out},
+    {"long path", FEW_PAIRS, AS_MADE, order_long_path},
 };
 const unsigned kind_count = sizeof kinds / sizeof *kinds;

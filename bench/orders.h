@@ -5,8 +5,8 @@
 #include "plan.h"
 #include "random.h"
 
-// What an event is for, where the kind says so.
-enum role { ANY, GIVER, TAKER, NEITHER, BIG_GIVER, BIG_TAKER, ROLES };
+// What an event is for, where the kind says so. A fixed giver gives one token less than a fixed taker takes.
+enum role { ANY, GIVER, TAKER, NEITHER, BIG_GIVER, BIG_TAKER, FIXED_GIVER, FIXED_TAKER, ROLES };
 
 struct order {
     unsigned events, pairs;
@@ -52,5 +52,6 @@ void order_two_rows(struct order *order, struct random *r);
 void order_middle(struct order *order, struct random *r);
 void order_fence(struct order *order, struct random *r);
 void order_paths(struct order *order, struct random *r);
+void order_long_path(struct order *order, struct random *r);
 
 #endif

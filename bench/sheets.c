@@ -41,14 +41,28 @@ static void any_weights(struct net *net, struct random *r, unsigned t, unsigned 
     net->gives[t][p] = (uint16_t)gives;
 }
 
+static unsigned role_weight(struct random *r, enum role role, enum style style, unsigned scale)
+{
+    switch (role) {
+    case BIG_GIVER:
+    case BIG_TAKER:
+        return MAX_WEIGHT - random_below(r, 100);
+    case FIXED_GIVER:
+        return MAX_WEIGHT - 1;
+    case FIXED_TAKER:
+        return MAX_WEIGHT;
+    default:
+        return 1 + draw_weight(r, style, scale) % MAX_WEIGHT;
+    }
+}
+
 static void role_weights(struct net *net, struct random *r, unsigned t, unsigned p, enum style style, unsigned scale)
 {
     enum role role = net->role[t];
-    int big = role == BIG_GIVER || role == BIG_TAKER;
-    unsigned weight = big ? MAX_WEIGHT - random_below(r, 100) : 1 + draw_weight(r, style, scale) % MAX_WEIGHT;
+    unsigned weight = role_weight(r, role, style, scale);
 
-    net->gives[t][p] = (uint16_t)(role == GIVER || role == BIG_GIVER ? weight : 0);
-    net->takes[t][p] = (uint16_t)(role == TAKER || role == BIG_TAKER ? weight : 0);
+    net->gives[t][p] = (uint16_t)(role == GIVER || role == BIG_GIVER || role == FIXED_GIVER ? weight : 0);
+    net->takes[t][p] = (uint16_t)(role == TAKER || role == BIG_TAKER || role == FIXED_TAKER ? weight : 0);
 }
 
 // At each place weights up to 1,000, or up to 10 at every third; beside big roles the others have weights up to 8.

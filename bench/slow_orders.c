@@ -1,6 +1,6 @@
 // Orders on which a simple first choice of givers is wrong, so that many tokens have to be exchanged.
 //
-// All but the narrow middle have two rows: givers, none of which is before another, and takers likewise. Events are made such
+// All but the narrow middle and the long path have two rows: givers, none of which is before another, and takers likewise. Events are made such
 // that a taker that draws from the nearest giver, by number, takes the tokens which a later taker has no other source of.
 #include "orders.h"
 
@@ -180,5 +180,30 @@ void order_paths(struct order *order, struct random *r)
                 order_add(order, first + i, HALF + first + i - 1);
         }
         first += length;
+    }
+}
+
+// Givers i and i + 1 are before taker i. Each giver but the first, which is big, gives one token less than a taker takes. Drawn for from the
+// last to the first, each taker leaves its neighbour just what that one needs; drawn for from the first on, each but the first lacks a token,
+// which then has to be exchanged all along the path. So that the last has the fewest before it, the others stand behind a chain, half of which
+// has the lowest numbers and half the highest.
+void order_long_path(struct order *order, struct random *r)
+{
+    enum { PATH = 85, HALF_CHAIN = (PATH - 1) / 2, GIVERS = HALF_CHAIN, TAKERS = GIVERS + PATH + 1, HIGH = TAKERS + PATH };
+    unsigned chain[2 * HALF_CHAIN];
+
+    (void)r;
+    order_start(order, HIGH + HALF_CHAIN);
+    set_roles(order, 0, order->events, NEITHER);
+    set_roles(order, GIVERS, 1, BIG_GIVER);
+    set_roles(order, GIVERS + 1, PATH, FIXED_GIVER);
+    set_roles(order, TAKERS, PATH, FIXED_TAKER);
+    for (unsigned i = 0; i < PATH; i++)
+        join_all(order, GIVERS + i, 2, TAKERS + i, 1);
+    for (unsigned i = 0; i < 2 * HALF_CHAIN; i++) {
+        chain[i] = i % 2 == 0 ? i / 2 : HIGH + i / 2;
+        if (i > 0)
+            order_add(order, chain[i - 1], chain[i]);
+        order_add(order, chain[i], TAKERS + PATH - 2 - i);
     }
 }

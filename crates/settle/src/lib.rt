@@ -4,6 +4,7 @@ ghost use Prim.Native.Nat.{_<_, _≤_};
 ghost use mathlib.Core.Path.{_≡_};
 ghost use lib.Dec.{leb};
 ghost use lib.ListN.{length};
+ghost use Rattle.finite.specs.Filled.{Filled};
 ghost use Rattle.finite.specs.Sum.{sumOf};
 ghost use Rattle.marks.specs.Marks.{HasRow};
 ghost use Rattle.marks.specs.Search.{Tells};
@@ -82,6 +83,7 @@ fn advance(
 // Forgets by way of which place each giver was met, so that a push looks at those of the next search only.
 fn forget(via: &mut [usize])
     requires { ⌜ 256 ≤ length (now via) ⌝ }
+    ensures { λ _. ⌜ Filled (λ u. 256) 256 (now (via .entry)) (now (via .exit)) ⌝ }
 {
     for u in 0..256usize {
         via[u] = 256;

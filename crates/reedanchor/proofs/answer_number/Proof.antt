@@ -1,6 +1,6 @@
 -- `reedanchor::answer_number` meets its contract.
-use Prim.Native.Nat.{ℕ, _<_}
-use mathlib.Core.Path.{subst, ap}
+use native.Mathlib.Omega.{arith}
+use mathlib.Core.Path.{ap}
 use Rattle.reedanchor.specs.Till.{answerNumber}
 use borrow.Author.Needs.{needs}
 use Rattle.reedanchor.proofs.answer_number.Statement.{statement}
@@ -13,7 +13,7 @@ enum-known-a-2 : tie.Need-enum-known-a-2
 enum-known-a-2 c = search needs
 
 verdict-number-requires : tie.Need-verdict-number-requires
-verdict-number-requires c κs = subst (λ (k : ℕ). k < 1064) (ap answerNumber (c .before .a2 .given .1)) (c .before .before .before .pre)
+verdict-number-requires c κs = omega (arith, ap answerNumber (c .before .a2 .given .1), c .before .before .before .pre)
 
 returns : tie.Need-returns
 returns c = search needs
