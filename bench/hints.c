@@ -1,7 +1,7 @@
 // How long the archive takes on each kind of sheet, over the independent judge: a line with the ratio, a tab and the kind's name.
 //
-// The hints that steer a search have no proof, and a wrong one leaves every answer as it is. It shows in these ratios; tests/hints holds them to
-// the recorded ones.
+// The hints that steer a search have no proof, and a wrong one leaves every answer as it is. It shows in these ratios; tests/hints
+// holds them to the recorded ones.
 #include "measure.h"
 
 #include <stdio.h>

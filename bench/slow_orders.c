@@ -1,7 +1,8 @@
 // Orders on which a simple first choice of givers is wrong, so that many tokens have to be exchanged.
 //
-// All but the narrow middle and the long path have two rows: givers, none of which is before another, and takers likewise. Events are made such
-// that a taker that draws from the nearest giver, by number, takes the tokens which a later taker has no other source of.
+// All but the narrow middle and the long path have two rows: givers, none of which is before another, and takers likewise. Events
+// are made such that a taker that draws from the nearest giver, by number, takes the tokens which a later taker has no other
+// source of.
 #include "orders.h"
 
 enum { HALF = MAX_EVENTS / 2 };
@@ -183,10 +184,10 @@ void order_paths(struct order *order, struct random *r)
     }
 }
 
-// Givers i and i + 1 are before taker i. Each giver but the first, which is big, gives one token less than a taker takes. Drawn for from the
-// last to the first, each taker leaves its neighbour just what that one needs; drawn for from the first on, each but the first lacks a token,
-// which then has to be exchanged all along the path. So that the last has the fewest before it, the others stand behind a chain, half of which
-// has the lowest numbers and half the highest.
+// Givers i and i + 1 are before taker i. Each giver but the first, which is big, gives one token less than a taker takes. Drawn for
+// from the last to the first, each taker leaves its neighbour just what that one needs; drawn for from the first on, each but the
+// first lacks a token, which then has to be exchanged all along the path. So that the last has the fewest before it, the others
+// stand behind a chain, half of which has the lowest numbers and half the highest.
 void order_long_path(struct order *order, struct random *r)
 {
     enum { PATH = 85, HALF_CHAIN = (PATH - 1) / 2, GIVERS = HALF_CHAIN, TAKERS = GIVERS + PATH + 1, HIGH = TAKERS + PATH };
