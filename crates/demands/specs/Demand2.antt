@@ -34,7 +34,7 @@ use Rattle.place_judgement.specs.declared.Judgement.the-variants.{Fault, Runs, 
 use Rattle.place_judgement.specs.Judgement.{missingIn, answer, judgeFault, judgementOf, judgement-missing, marksAfter, Handed}
 use Rattle.plan_judgement.specs.Judgement.{planFault, answerOf}
 use Rattle.reedanchor.specs.Till.{tillAnswer}
-use Rattle.demands.specs.Whole.{Tells, SaysRuns, SaysShort, plan-tells, till-tells}
+use Rattle.demands.specs.Whole.{TellsVerdict, SaysRuns, SaysShort, plan-tells, till-tells}
 
 -- the events that a row of marks marks, of the first n
 abbrev pub doneIn : ℕ → List ℕ → Set
@@ -55,8 +55,8 @@ pub record Published (s : List ℕ) (p : ℕ) (flow marks : List ℕ) : Type 0 w
 pub record Demand2 : Type 0 where
   pub judged : (s : List ℕ) (p : ℕ) (flow marks : List ℕ) → judgeFault s p flow marks ≡ 0 → Published s p flow marks
   -- The same verdict on the whole plan, by the plan judgement and by the number that the till server gets.
-  pub plan : (s row : List ℕ) → planFault s row ≡ 0 → Tells s (SaysRuns (answerOf s row)) (SaysShort (answerOf s row))
-  pub till : (s : List ℕ) → faultOf s ≡ 0 → Tells s (tillAnswer s ≡ 0) (λ p. tillAnswer s ≡ 1000 + p)
+  pub plan : (s row : List ℕ) → planFault s row ≡ 0 → TellsVerdict s (SaysRuns (answerOf s row)) (SaysShort (answerOf s row))
+  pub till : (s : List ℕ) → faultOf s ≡ 0 → TellsVerdict s (tillAnswer s ≡ 0) (λ p. tillAnswer s ≡ 1000 + p)
   -- "A flow drawn up elsewhere is passed exactly if valid."
   pub passed : (s : List ℕ) (p : ℕ) (row : List ℕ) → flowFault s p row ≡ 0 → (checkedOf s p row ≡ Valid) ↔ T (valid (netOf s) (planOf s) p (flowOf row))
 

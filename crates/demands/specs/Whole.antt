@@ -34,7 +34,7 @@ pub record FirstShort (s : List ℕ) (p : ℕ) : Type 0 where
   pub before : (q : ℕ) → q < p → Executable (netOf s) (planOf s) q
 
 -- A call tells the verdict on the plan of the sheet s: `yes` is what it says of a plan that runs, `no p` of one that is short, first at p.
-pub record Tells (s : List ℕ) (yes : Type 0) (no : ℕ → Type 0) : Type 0 where
+pub record TellsVerdict (s : List ℕ) (yes : Type 0) (no : ℕ → Type 0) : Type 0 where
   -- The plan runs exactly if every cut is covered at every place of the net (001, definition 6; 003, definition 3),
   pub by-cuts : yes ↔ Execution (netOf s) (planOf s)
   -- and exactly if every place has a valid compact tokenflow (003, theorems 2 to 4).
@@ -93,7 +93,7 @@ module _ (s : List ℕ) (taken : faultOf s ≡ 0) where
   runs-is = runs-told s
 
   -- a call whose answers are told by the verdict
-  tells : {yes : Type 0} {no : ℕ → Type 0} → yes ↔ (told ≡ Runs) → ((p : ℕ) → no p ↔ ((m : ℕ) × (told ≡ Short (record { 0 = p }) m))) → Tells s yes no
+  tells : {yes : Type 0} {no : ℕ → Type 0} → yes ↔ (told ≡ Runs) → ((p : ℕ) → no p ↔ ((m : ℕ) × (told ≡ Short (record { 0 = p }) m))) → TellsVerdict s yes no
   tells yes-is no-is =
       let v = plan-verdict (netOf s) (planOf s) (sound s (faultless s taken)) in
       let back : T (runs (netOf s) (planOf s)) → _ = λ t. yes-is .1 (runs-is .1 t) in
@@ -105,18 +105,18 @@ module _ (s : List ℕ) (taken : faultOf s ≡ 0) where
       }
 
 -- The plan judgement tells it,
-answer-tells : (s : List ℕ) (k : ℕ) → faultOf s ≡ 0 → k ≡ 0 → Tells s (SaysRuns (answer k (totalsOf s))) (SaysShort (answer k (totalsOf s)))
+answer-tells : (s : List ℕ) (k : ℕ) → faultOf s ≡ 0 → k ≡ 0 → TellsVerdict s (SaysRuns (answer k (totalsOf s))) (SaysShort (answer k (totalsOf s)))
 unfolding answer totalsOf
 answer-tells s zero taken none = tells s taken (λ e. e, λ e. e) (λ p. (λ h. h, λ h. h))
 answer-tells s (suc k) taken none = absurd (omega arith)
 
-pub plan-tells : (s row : List ℕ) → planFault s row ≡ 0 → Tells s (SaysRuns (answerOf s row)) (SaysShort (answerOf s row))
+pub plan-tells : (s row : List ℕ) → planFault s row ≡ 0 → TellsVerdict s (SaysRuns (answerOf s row)) (SaysShort (answerOf s row))
 unfolding answerOf planFault
 plan-tells s row none =
     answer-tells s (planFault s row) (row-known (faultOf s) row (placesOf s) none .0) none
 
 -- and so does the till server's call, by its number.
-pub till-tells : (s : List ℕ) → faultOf s ≡ 0 → Tells s (tillAnswer s ≡ 0) (λ p. tillAnswer s ≡ 1000 + p)
+pub till-tells : (s : List ℕ) → faultOf s ≡ 0 → TellsVerdict s (tillAnswer s ≡ 0) (λ p. tillAnswer s ≡ 1000 + p)
 till-tells s taken =
     tells
     s
