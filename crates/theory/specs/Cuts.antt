@@ -76,6 +76,10 @@ module _ (n : ℕ) (R : ℕ → ℕ → Bool) (trans : (u v w : ℕ) → T (R u 
 
 -- ---- cuts and done sets
 
+-- all that a cut and the events before it take
+abbrev pub takenUpTo : Net → Plan → ℕ → Set → ℕ
+takenUpTo N P p C = over (P .events) C (takenBy N P p) + over (P .events) (preset P C) (takenBy N P p)
+
 module _ (N : Net) (P : Plan) (p : ℕ) (S : Sound P) where
   joins : (u v w : ℕ) → T (before P u v) → T (before P v w) → T (before P u w)
   joins u v w s t = before-test P u w .1 (chain (before-test P u v .0 s) (before-test P v w .0 t))
@@ -83,7 +87,7 @@ module _ (N : Net) (P : Plan) (p : ℕ) (S : Sound P) where
   strict : (v : ℕ) → T (before P v v) → ⊥
   strict v t = S .acyclic v (before-test P v v .0 t)
 
-  covered : (C : Set) → Covered N P p C ↔ (over (P .events) C (takenBy N P p) + over (P .events) (preset P C) (takenBy N P p) ≤ supply N P p (preset P C))
+  covered : (C : Set) → Covered N P p C ↔ (takenUpTo N P p C ≤ supply N P p (preset P C))
   unfolding Covered tokens supply
   covered C =
       let h = le-minus (over (P .events) C (takenBy N P p)) (N .opening p + over (P .events) (preset P C) (givenBy N P p)) (over (P .events) (preset P C) (takenBy N P p)) in
@@ -212,7 +216,7 @@ module _ (N : Net) (P : Plan) (p : ℕ) (S : Sound P) where
             (decide (D v))
 
     -- what is taken up to the cut is all that the done set and its front take, and no more is given
-    cut-taken : taken N P p D ≤ over (P .events) maximal (takenBy N P p) + over (P .events) (preset P maximal) (takenBy N P p)
+    cut-taken : taken N P p D ≤ takenUpTo N P p maximal
     unfolding taken over U
     cut-taken =
         omega (
@@ -230,8 +234,8 @@ module _ (N : Net) (P : Plan) (p : ℕ) (S : Sound P) where
     cut-supply =
         omega (arith, over-mono (P .events) (preset P maximal) D (givenBy N P p) (λ v l t. let w = preset-yes P S maximal v t in done-before v (w .0) (w .2) (maximal-yes (w .0) (w .1) .reaches)))
 
-  -- What a done set and its front lack is lacking at some cut too: what the cut takes and what is taken before it, less what there is for it.
-  pub some-cut : (D : Set) → IsPrefix P D → (C : Set) × IsCut P C × (taken N P p D + supply N P p (preset P C) ≤ over (P .events) C (takenBy N P p) + over (P .events) (preset P C) (takenBy N P p) + supply N P p D)
+  -- What a done set and its front lack is lacking at some cut too.
+  pub some-cut : (D : Set) → IsPrefix P D → (C : Set) × IsCut P C × (taken N P p D + supply N P p (preset P C) ≤ takenUpTo N P p C + supply N P p D)
   some-cut D d = (maximal D d, maximal-cut D d, omega (arith, cut-taken D d, cut-supply D d))
 
   pub cuts-prefixes : Executable N P p → (D : Set) → IsPrefix P D → taken N P p D ≤ supply N P p D

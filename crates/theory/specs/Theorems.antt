@@ -20,7 +20,7 @@ use Rattle.plan.specs.Cut.{IsCut, preset, Executable, Execution}
 use Rattle.plan.specs.Flow.{Flow, rule1, rule2, rule3, rule4, valid, otherwiseValid, overrun, shares}
 use Rattle.plan.specs.Compare.{withMore, MoreOrder, SameAt}
 use Rattle.theory.specs.Comparisons.{missing-more, missing-order, missing-same}
-use Rattle.theory.specs.Cuts.{some-cut, prefixes-cuts, cuts-prefixes}
+use Rattle.theory.specs.Cuts.{takenUpTo, some-cut, prefixes-cuts, cuts-prefixes}
 use Rattle.theory.specs.Missing.{taken, supply, step-lack-is, lack-is, lack-above0, missing-bounds, missing-attained}
 use Rattle.theory.specs.Overrun.{overrun-bounds, overrun-attained}
 use Rattle.theory.specs.Prefixes.{empty-prefix, full-prefix}
@@ -114,7 +114,8 @@ module _ (N : Net) (P : Plan) (p : ℕ) (S : Sound P) where
         by-cut = λ D d.
             let w = some-cut N P p S D d in
             let before : Set = preset P (w .0) in
-            (w .0, w .1, subst₂ _≤ℤ_ (sym (lack-is N P p D)) (sym (step-lack-is N P p before (w .0))) (minus-below (taken N P p D) (supply N P p D) (takes (w .0) + takes before) (supply N P p before) (w .2)));
+            let less = minus-below (taken N P p D) (supply N P p D) (takenUpTo N P p (w .0)) (supply N P p before) (w .2) in
+            (w .0, w .1, subst₂ _≤ℤ_ (sym (lack-is N P p D)) (sym (step-lack-is N P p before (w .0))) less);
       }
 
   no-lack : (D : Set) → (lack N P p D ≤ℤ pos 0) ↔ (taken N P p D ≤ supply N P p D)
@@ -176,7 +177,11 @@ module _ (N : Net) (P : Plan) (S : Sound P) where
 
   pub plan-verdict : PlanVerdict N P
   plan-verdict =
+      let at : (p : ℕ) → Verdict N P p = λ p. verdict N P p S in
       record {
-        by-cuts = (λ t. record { covered = λ p l. verdict N P p S .by-cuts .0 (everywhere .0 t p l) .cuts }, λ x. everywhere .1 (λ p l. verdict N P p S .by-cuts .1 (record { cuts = x .covered p l })));
-        by-flows = (λ t p l. verdict N P p S .by-flows .0 (everywhere .0 t p l), λ x. everywhere .1 (λ p l. verdict N P p S .by-flows .1 (x p l)));
+        by-cuts = (
+          λ t. record { covered = λ p l. at p .by-cuts .0 (everywhere .0 t p l) .cuts },
+          λ x. everywhere .1 (λ p l. at p .by-cuts .1 (record { cuts = x .covered p l })),
+        );
+        by-flows = (λ t p l. at p .by-flows .0 (everywhere .0 t p l), λ x. everywhere .1 (λ p l. at p .by-flows .1 (x p l)));
       }
