@@ -1,5 +1,6 @@
 /* Judges sheets: prints for each file whether its plan runs, where it is short first, or why its sheet is refused.
- * Exit status: 0 every plan runs, 1 some plan is short or some sheet refused, 2 wrong use or a file that can't be read.
+ * Exit status: 0 every plan runs, 1 some plan is short or some sheet refused, 2 wrong use, a file that can't be read or an output
+ * that can't be written.
  * It is C (since C99) and C++ (since C++98) alike. */
 #include <errno.h>
 #include <stdio.h>
@@ -68,14 +69,14 @@ int main(int argc, char **argv)
         fprintf(stderr, "usage: judge SHEET...    SHEET is a file that holds one sheet\n");
         return 2;
     }
-    for (int i = 1; i < argc; i++) {
+    for (int i = 1; i < argc && !ferror(stdout); i++) {
         size_t length;
         if (!read_sheet(argv[i], sheet, &length))
             status = 2;
         else if (!judge(argv[i], sheet, length) && status == 0)
             status = 1;
     }
-    if (fflush(stdout) != 0) {
+    if (ferror(stdout) || fflush(stdout) != 0) {
         fprintf(stderr, "judge: can't write: %s\n", strerror(errno));
         return 2;
     }
