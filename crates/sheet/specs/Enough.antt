@@ -100,7 +100,7 @@ module _ (s : List ℕ) (long : enoughBytes ≤ length s) where
 all-there : (s : List ℕ) → length s < enoughBytes → enough s ≡ s
 all-there s l = take-all enoughBytes s (le-of-lt l)
 
--- What holds of that much of a sheet holds of all of it, if it does where the sheet is as long, or longer, and so faulty.
+-- Something holds of that much of a sheet if it does where there is more, and of the sheet itself where there is less.
 pub by-length : (X : List ℕ → Type 0) (s : List ℕ) → (enoughBytes ≤ length s → X (enough s)) → (length s < enoughBytes → X s) → X (enough s)
 by-length X s long short =
     ⊎-elim
