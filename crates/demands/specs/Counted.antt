@@ -10,7 +10,7 @@ use Rattle.sheet.specs.Table.{placesOf}
 use Rattle.sheet.specs.Items.{netOf, planOf}
 use Rattle.calls.specs.Call.{row-known}
 use Rattle.calls.specs.Overwritten.{overwritten, over-first, at-none}
-use Rattle.lookup.specs.declared.Place.{Place}
+use Rattle.ids.specs.declared.Place.{Place}
 use Rattle.judge.specs.Counts.{missingAt}
 use Rattle.summary.specs.declared.Verdict.the-variants.{Short}
 use Rattle.summary.specs.Laws.{Says, verdict-says}

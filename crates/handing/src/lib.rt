@@ -22,8 +22,8 @@ ghost use Rattle.fold.specs.Written.{SharesFrom};
 ghost use Rattle.handing.specs.Handed.{doneMark, Written};
 use fold::index_pairs;
 use fold::write_flow;
+use ids::Place;
 use layout::Counts;
-use lookup::Place;
 use marks::is_marked;
 use place::put_words;
 

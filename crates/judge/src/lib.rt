@@ -8,8 +8,8 @@ ghost use Rattle.sheet.specs.Faultless.{Faultless};
 ghost use Rattle.layout.specs.Counts.{CountsOf};
 ghost use Rattle.closure.specs.PlanRows.{Predecessors};
 ghost use Rattle.judge.specs.Counts.{missingAt};
+use ids::Place;
 use layout::Counts;
-use lookup::Place;
 use place::settle_place;
 
 // The missing count of the place p, as the row's number p.

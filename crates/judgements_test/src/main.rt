@@ -7,7 +7,7 @@
 ghost use Prim.Native.Nat.{_<_};
 use flowcheck::Checked;
 use flowcheck::check_flow;
-use lookup::Place;
+use ids::Place;
 use place_judgement::Judgement;
 use place_judgement::judge_place;
 use plan_judgement::Answer;

@@ -11,7 +11,7 @@ ghost use Rattle.text.specs.Put.{Put};
 ghost use Rattle.lines.specs.Listing.{planLine, placeLine, totalsLine, each, eventIn, doneEvents, firstLine, runsLine, lineOf, refusedLine};
 ghost use Rattle.lines.specs.Counted.{Counted};
 ghost use Rattle.lines.specs.Marked.{marked, eventText};
-use lookup::Place;
+use ids::Place;
 use reader::gained_of;
 use reader::lost_of;
 use reader::opening_of;

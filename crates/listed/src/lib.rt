@@ -12,6 +12,7 @@ ghost use Rattle.lines.specs.Listing.{firstLine, verdictLine, linesOf, listingO
 ghost use Rattle.lines.specs.Counted.{Counted};
 ghost use Rattle.listed.specs.Listed.{listedOf, rowAfter};
 use counts::free_count;
+use ids::Place;
 use layout::entry_count;
 use lines::put_first;
 use lines::put_places;
@@ -19,7 +20,6 @@ use lines::put_plan;
 use lines::put_refused;
 use lines::put_runs;
 use lines::put_totals;
-use lookup::Place;
 use place_judgement::judge_place;
 use plan_judgement::Answer;
 use plan_judgement::judge_plan;

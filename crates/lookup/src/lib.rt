@@ -5,14 +5,11 @@ ghost use mathlib.Core.Path.{_≡_};
 ghost use Rattle.sheet.specs.Table.{placesOf, transitionsOf, eventsOf, pairsOf};
 ghost use Rattle.sheet.specs.Items.{openingAt, takesAt, givesAt, labelAt, earlierAt, laterAt};
 ghost use Rattle.sheet.specs.Laid.{Laid};
+use ids::Event;
+use ids::Place;
+use ids::Transition;
 use numbers::get16;
 use numbers::get32;
-
-pub struct Place(pub usize);
-
-pub struct Transition(pub usize);
-
-pub struct Event(pub usize);
 
 // Where the item of transition t stands; after the last one, where the events start.
 fn transition_at(places: usize, t: usize) -> usize

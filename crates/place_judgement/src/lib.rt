@@ -20,9 +20,9 @@ use drawing::event_order;
 use fault::examine;
 use handing::hand_flow;
 use handing::hand_marks;
+use ids::Place;
 use layout::Counts;
 use layout::counts_of;
-use lookup::Place;
 use place::settle_place;
 
 pub enum Judgement {

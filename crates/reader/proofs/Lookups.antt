@@ -34,7 +34,7 @@ use denote.Triple.Clauses.{Clauses, closing}
 use denote.Triple.Entry.{Vals, alive}
 use denote.Triple.Spec.{Meets, tripleOf}
 use denote.Triple.Statement.{Contract, Triple}
-use Rattle.lookup.specs.declared.Place.{Place}
+use Rattle.ids.specs.declared.Place.{Place}
 use Rattle.lookup.proofs.Place as P
 use Rattle.lookup.proofs.Place.Laws as P′
 use Rattle.lookup.proofs.opening as opening

@@ -26,7 +26,7 @@ use denote.Triple.Clauses.{Clauses, closing}
 use denote.Triple.Entry.{alive}
 use denote.Triple.Spec.{Meets, tripleOf}
 use denote.Triple.Statement.{Contract, Triple}
-use Rattle.lookup.specs.declared.Place.{Place}
+use Rattle.ids.specs.declared.Place.{Place}
 use Rattle.lookup.proofs.Place as P
 use Rattle.lookup.proofs.Place.Laws as P′
 use Rattle.sheet.specs.Table.{placesOf}

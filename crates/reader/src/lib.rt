@@ -9,8 +9,8 @@ ghost use Rattle.sheet.specs.Laid.{Laid};
 ghost use Rattle.sheet.specs.Faultless.{Faultless};
 ghost use Rattle.counts.specs.Ends.{gainedAt, lostAt};
 ghost use Rattle.reader.specs.Reads.{Reads, readerOf};
+use ids::Place;
 use layout::counts_of;
-use lookup::Place;
 
 pub struct Reader<'a> {
     sheet: &'a [u8],

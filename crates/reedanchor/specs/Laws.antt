@@ -9,7 +9,7 @@ use lib.Dec.{T}
 use Rattle.plan.specs.Prefix.{runs}
 use Rattle.judge.specs.Counts.{missingAt}
 use Rattle.sheet.specs.Table.{placesOf}
-use Rattle.lookup.specs.declared.Place.{Place}
+use Rattle.ids.specs.declared.Place.{Place}
 use Rattle.sheet.specs.Items.{netOf, planOf}
 use Rattle.sheet.specs.Faults.{faultOf}
 use Rattle.sheet.specs.Faultless.{faultless, fault-most}

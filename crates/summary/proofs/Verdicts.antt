@@ -9,7 +9,7 @@ use mathlib.Core.Path.{_≡_, refl, sym, ap, ap₂, _∙_}
 use borrow.Author.Tests.{lt-ltb, le-ltb}
 use lib.Dec.{ltb}
 use Rattle.finite.specs.Sum.{on, sum-start, sum-more}
-use Rattle.lookup.specs.declared.Place.{Place}
+use Rattle.ids.specs.declared.Place.{Place}
 use Rattle.summary.specs.declared.Verdict.{Verdict}
 use Rattle.summary.specs.declared.Verdict.the-variants.{Runs, Short}
 use Rattle.summary.specs.Summary.{totalMissing, shortPlaces, decides, verdictOf}

@@ -3,7 +3,7 @@ ghost use Prim.Native.Nat.{_≤_};
 ghost use mathlib.Core.Path.{_≡_};
 ghost use lib.ListN.{length};
 ghost use Rattle.summary.specs.Summary.{totalMissing, shortPlaces, verdictOf, countAt, MissingCounts};
-use lookup::Place;
+use ids::Place;
 
 // A plan runs, or is short at a first place by a missing count.
 pub enum Verdict {
