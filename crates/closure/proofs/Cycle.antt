@@ -7,11 +7,11 @@ use mathlib.Core.Path.{_≡_, refl, sym, ap, ap₂, subst, _∙_}
 use lib.Dec.{T}
 use Rattle.finite.specs.Bounded.{any, same, yes-any}
 use Rattle.marks.specs.Marks.{marked}
-use Rattle.closure.specs.Closed.{cyclic}
+use Rattle.closure.specs.ClosedRows.{cyclic}
 
-pub start : (rows : List ℕ) → cyclic rows 0 ≡ false
+pub start : (rows : List ℕ) (v : ℕ) → v ≡ 0 → cyclic rows v ≡ false
 unfolding cyclic any
-start rows = refl
+start rows v none = rw none refl
 
 pub more : (rows : List ℕ) (v : ℕ) → cyclic rows v ≡ false → marked rows v v ≡ false → cyclic rows (v + 1) ≡ false
 unfolding cyclic any
@@ -21,3 +21,6 @@ pub found : (rows : List ℕ) (n v : ℕ) → v < n → marked rows v v ≡ true
 unfolding cyclic
 found rows n v l h =
     same true (cyclic rows n) (λ t. yes-any n (λ w. marked rows w w) v l (subst T (sym h) tt)) (λ t. tt)
+
+pub none : (rows : List ℕ) (n v : ℕ) → v ≡ n → cyclic rows v ≡ false → false ≡ cyclic rows n
+none rows n v e h = sym (subst (λ (m : ℕ). cyclic rows m ≡ false) e h)

@@ -8,11 +8,11 @@ use mathlib.Core.Logic.{⊎-elim}
 use mathlib.Core.Path.{_≡_, refl, sym, ap, ap₂, _∙_}
 use borrow.Author.Tests.{le-ltb, lt-ltb}
 use lib.Dec.{T, eqb, ltb, eqb→eq, ltb→lt}
-use lib.ListN.{length}
 use mir.Facts.{or-yes, yes-eqb, yes-ltb}
+use Rattle.ids.specs.Limits.{mostEvents}
 use Rattle.finite.specs.Bounded.{below-suc, same, yes-or-left, yes-or-right}
 use Rattle.marks.specs.Marks.{marked, RowJoined}
-use Rattle.closure.specs.Closed.{Closed, ClosedBy}
+use Rattle.closure.specs.ClosedRows.{ClosedRows, ClosedRowsBy}
 use Rattle.closure.specs.Reach.{reach}
 
 -- the rows below i + 1 are i and those below i
@@ -50,40 +50,32 @@ turned false b c true false t h = or-false (b && c)
 turned false b c false true t h = rw (h tt) refl
 turned false b c false false t h = refl
 
-pub start : (rows : List ℕ) (k : ℕ) → ClosedBy rows rows k 0
-start rows k =
-    record {
-      size = refl;
-      marks = λ u v h. rw (le-ltb u 0 (omega arith)) (sym (or-false (marked rows u v)));
-    }
+pub start : (rows : List ℕ) (k i : ℕ) → i ≡ 0 → ClosedRowsBy rows rows k i
+start rows k i none =
+    record { marks = λ u v h. rw (le-ltb u i (omega arith)) (sym (or-false (marked rows u v))) }
 
 -- Row k keeps its marks, and row i has its old ones until its turn.
-row-k : (old new : List ℕ) (k i v : ℕ) → v < 256 → ClosedBy old new k i → marked new k v ≡ marked old k v
+row-k : (old new : List ℕ) (k i v : ℕ) → v < mostEvents → ClosedRowsBy old new k i → marked new k v ≡ marked old k v
 row-k old new k i v h g = g .marks k v h ∙ absorbed (marked old k v) (marked old k k) (ltb k i)
 
-row-i : (old new : List ℕ) (k i : ℕ) → k < 256 → ClosedBy old new k i → marked new i k ≡ marked old i k
+row-i : (old new : List ℕ) (k i : ℕ) → k < mostEvents → ClosedRowsBy old new k i → marked new i k ≡ marked old i k
 row-i old new k i h g =
     g .marks i k h ∙ rw (le-ltb i i (omega arith)) (or-false (marked old i k))
 
 -- the turn of row i
 pub record Turn (new last : List ℕ) (k i : ℕ) : Type 0 where
-  pub size : length last ≡ length new
-  pub marks : (u v : ℕ) → v < 256 → marked last u v ≡ (marked new u v || (eqb u i && (marked new i k && marked new k v)))
+  pub marks : (u v : ℕ) → v < mostEvents → marked last u v ≡ (marked new u v || (eqb u i && (marked new i k && marked new k v)))
 
-pub turn-join : (new last : List ℕ) (k i : ℕ) → marked new i k ≡ true → RowJoined new last k i → Turn new last k i
-turn-join new last k i t j = record { size = j .size; marks = λ u v h. j .marks u v h ∙ rw t refl }
+-- it is joined with row k where it has the mark k, and passed where it lacks it
+pub turn-join : (new last last′ : List ℕ) (k i : ℕ) → marked new i k ≡ true → RowJoined new last k i → last′ ≡ last → Turn new last′ k i
+turn-join new last last′ k i t j e = record { marks = λ u v h. rw e (j .marks u v h ∙ rw t refl) }
 
 pub turn-pass : (new last : List ℕ) (k i : ℕ) → marked new i k ≡ false → last ≡ new → Turn new last k i
-turn-pass new last k i t e =
-    record {
-      size = ap length e;
-      marks = λ u v h. rw (e, t) (simp (and-false, or-false));
-    }
+turn-pass new last k i t e = record { marks = λ u v h. rw (e, t) (simp (and-false, or-false)) }
 
-pub more : (old new last : List ℕ) (k i : ℕ) → k < 256 → ClosedBy old new k i → Turn new last k i → ClosedBy old last k (i + 1)
+pub more : (old new last : List ℕ) (k i : ℕ) → k < mostEvents → ClosedRowsBy old new k i → Turn new last k i → ClosedRowsBy old last k (i + 1)
 more old new last k i hk g r =
     record {
-      size = r .size ∙ g .size;
       marks = λ u v h.
           r .marks u v h
           ∙ ap₂ (λ (x y : Bool). x || (eqb u i && (marked new i k && y))) (g .marks u v h) (row-k old new k i v h g)
@@ -98,15 +90,14 @@ more old new last k i hk g r =
           ∙ ap (λ (x : Bool). marked old u v || (x && (marked old u k && marked old k v))) (sym (ltb-next u i));
     }
 
-pub round-start : (rows : List ℕ) (n : ℕ) → Closed rows rows n 0
+pub round-start : (rows : List ℕ) (n k : ℕ) → k ≡ 0 → ClosedRows rows rows n k
 unfolding reach
-round-start rows n = record { size = refl; marks = λ u v l h. refl; rest = λ u v l h. refl }
+round-start rows n k none = record { marks = λ u v l h. rw none refl; rest = λ u v l h. refl }
 
-pub round-more : (old new last : List ℕ) (n k : ℕ) → k < n → n ≤ 256 → Closed old new n k → ClosedBy new last k n → Closed old last n (k + 1)
+pub round-more : (old new last : List ℕ) (n k : ℕ) → k < n → n ≤ mostEvents → ClosedRows old new n k → ClosedRowsBy new last k n → ClosedRows old last n (k + 1)
 unfolding reach
 round-more old new last n k hk hn g c =
     record {
-      size = c .size ∙ g .size;
       marks = λ u v l h.
           c .marks u v h ∙ ap (λ (x : Bool). marked new u v || (x && (marked new u k && marked new k v))) (lt-ltb u n l)
           ∙ ap₂ _||_ (g .marks u v l h) (ap₂ _&&_ (g .marks u k l (omega arith)) (g .marks k v hk h))

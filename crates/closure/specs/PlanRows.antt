@@ -9,18 +9,19 @@ use mathlib.Core.Logic.{_↔_, ⊎-elim}
 use mathlib.Core.Path.{_≡_, sym, ap, ap₂, subst, _∙_}
 use lib.Dec.{T, eqb, ltb, ltb→lt, nltb→le, not-T, T-not}
 use lib.ListN.{replicate}
+use Rattle.ids.specs.Limits.{mostEvents}
 use Rattle.finite.specs.Bounded.{any, any-yes, yes-any, decide, same}
 use Rattle.plan.specs.Net.{Plan}
 use Rattle.plan.specs.Order.{Before, before, skeleton}
 use Rattle.marks.specs.Marks.{marked, meeting, none-marked, MarkAdded}
 use Rattle.closure.specs.Between.{meeting-between}
-use Rattle.closure.specs.Closed.{cyclic, closed-only, Closed}
+use Rattle.closure.specs.ClosedRows.{cyclic, closed-only, ClosedRows}
 use Rattle.closure.specs.Reach.{reach}
 use Rattle.closure.specs.Ordered.{isPair, before-events, pair-before, reach-before, reach-after, Named}
 
 -- The marks are those of R.
 pub record Marks (R : ℕ → ℕ → Bool) (rows : List ℕ) : Type 0 where
-  pub marks : (u v : ℕ) → v < 256 → marked rows u v ≡ R u v
+  pub marks : (u v : ℕ) → v < mostEvents → marked rows u v ≡ R u v
 
 -- The first m pairs are marked, (u, v) at row u; and turned, at row v.
 abbrev pub PairRows : Plan → ℕ → List ℕ → Type 0
@@ -32,7 +33,7 @@ TurnedRows P m = Marks (λ u v. isPair P m v u)
 -- The first n rows mark the numbers below n that C says, and no others.
 pub record Says (n : ℕ) (C : ℕ → ℕ → Type 0) (rows : List ℕ) : Type 0 where
   pub marks : (u v : ℕ) → u < n → v < n → T (marked rows u v) ↔ C u v
-  pub only : (u v : ℕ) → v < 256 → T (marked rows u v) → v < n
+  pub only : (u v : ℕ) → v < mostEvents → T (marked rows u v) → v < n
 
 -- An event's row marks what is after it; what is before it.
 abbrev pub Successors : Plan → List ℕ → Type 0
@@ -72,7 +73,7 @@ turned-more P m old new g a =
     }
 
 -- Closing rows that mark only numbers below n makes them say what is reached.
-closed-says : (n : ℕ) (R : ℕ → ℕ → Bool) (C : ℕ → ℕ → Type 0) (old new : List ℕ) → n ≤ 256 → Closed old new n n → Marks R old
+closed-says : (n : ℕ) (R : ℕ → ℕ → Bool) (C : ℕ → ℕ → Type 0) (old new : List ℕ) → n ≤ mostEvents → ClosedRows old new n n → Marks R old
     → ((u v : ℕ) → T (R u v) → v < n) → ((u v : ℕ) → u < n → v < n → T (reach n (marked old) u v) ↔ C u v) → Says n C new
 closed-says n R C old new few closed g named reached =
     record {
@@ -99,7 +100,7 @@ closed-says n R C old new few closed g named reached =
     }
 
 module _ (P : Plan) (named : Named P) where
-  module _ (few : P .events ≤ 256) (old new : List ℕ) (closed : Closed old new (P .events) (P .events)) where
+  module _ (few : P .events ≤ mostEvents) (old new : List ℕ) (closed : ClosedRows old new (P .events) (P .events)) where
     -- Rows of the pairs, closed, are the rows of what is after.
     pub closed-successors : PairRows P (P .pairs) old → Successors P new
     closed-successors g =
@@ -150,7 +151,7 @@ module _ (P : Plan) (named : Named P) where
     )
 
     -- That nothing is marked in common says that a pair is a skeleton pair. The test of "before" is taken as right.
-    pub skeleton-rows : (pred : List ℕ) → Predecessors P pred → P .events ≤ 256 → ((u v : ℕ) → T (before P u v) ↔ Before P u v)
+    pub skeleton-rows : (pred : List ℕ) → Predecessors P pred → P .events ≤ mostEvents → ((u v : ℕ) → T (before P u v) ↔ Before P u v)
         → (i : ℕ) → i < P .pairs → not (meeting succ (P .earlier i) pred (P .later i)) ≡ skeleton P i
     unfolding skeleton
     skeleton-rows pred ahead few test i l =

@@ -1,63 +1,40 @@
--- `closure::close_by` meets its contract. The invariant: the rows below i are closed by k.
-use Prim.Native.Nat.{ℕ, _-_, _≤_}
+-- The invariant: the rows below i are closed by k, the others as they were.
+use Prim.Native.Nat.{_-_, _≤_}
 use native.Mathlib.Omega.{arith}
-use mathlib.Core.List.{List}
 use mathlib.Core.Logic.{⊎-elim}
-use mathlib.Core.Path.{sym, subst, _∙_}
+use mathlib.Core.Path.{subst}
 use borrow.Author.Needs.{needs}
-use Rattle.marks.specs.Marks.{RowJoined}
-use Rattle.closure.specs.Closed.{ClosedBy}
+use Rattle.closure.specs.ClosedRows.{ClosedRowsBy}
 use Rattle.closure.proofs.Rounds.{start, turn-join, turn-pass, more}
 use Rattle.closure.proofs.close_by.Statement.{statement}
 use Rattle.closure.proofs.close_by.Tie as tie
 
 abbrev Inv-loop : tie.InvT-loop
-Inv-loop rows₀ k n i₀ rows i = (i ≤ n) × ClosedBy rows₀ rows k i
+Inv-loop rows₀ k n i₀ rows i = (i ≤ n) × ClosedRowsBy rows₀ rows (k .0) i
 
 abbrev μ-loop : tie.MeasureT-loop
 μ-loop rows₀ k n i₀ rows i = n - i
 
 loop-holds : tie.Need-loop-holds Inv-loop μ-loop
-loop-holds c = (search needs, start (c .before .args .rows .now) (c .before .args .k))
-
-is-marked-requires : tie.Need-is-marked-requires Inv-loop μ-loop
-is-marked-requires c κs = search needs
-
-join-requires : tie.Need-join-requires Inv-loop μ-loop
-join-requires c κs = search needs
-
-add-i : tie.Need-add-i Inv-loop μ-loop
-add-i c = search needs
-
-loop-less : tie.Need-loop-less Inv-loop μ-loop
-loop-less c = search needs
+loop-holds c = (search needs, start _ _ _ (omega arith))
 
 loop-again : tie.Need-loop-again Inv-loop μ-loop
 loop-again c =
-    let a = c .before .before .before .before .before .before .args in
-    let l = c .before .before .before .before .loop in
-    let found = c .before .is-marked .ensures in
-    let turn =
-    ⊎-elim
-    (λ w.
-    turn-join
-    (l .rows)
-    (c .if1 .rows)
-    (a .k)
-    (l .i)
-    (sym found ∙ w .0 .taken)
-    (subst (λ (r : List ℕ). RowJoined (l .rows) r (a .k) (l .i)) (sym (w .5)) (w .2 .ensures)))
-    (λ w. turn-pass (l .rows) (c .if1 .rows) (a .k) (l .i) (sym found ∙ w .0 .left) (w .1))
-    (c .if1 .came)
-    in (search needs, more (a .rows .now) (l .rows) (c .if1 .rows) (a .k) (l .i) (omega arith) (l .inv .1) turn)
-
-same-length : tie.Need-same-length Inv-loop μ-loop
-same-length c = c .before .loop .inv .1 .size
+    let at-loop : tie.At-loop Inv-loop μ-loop = search in (
+      search needs,
+      more
+          _
+          _
+          _
+          _
+          _
+          (omega arith)
+          (at-loop .loop .inv .1)
+          (⊎-elim (λ w. turn-join _ _ _ _ _ (cc) (w .2 .ensures) (w .3)) (λ w. turn-pass _ _ _ _ (cc) (w .1)) (c .if1 .came)),
+    )
 
 returns : tie.Need-returns Inv-loop μ-loop
-returns c =
-    let a = c .before .before .before .args in
-    subst (ClosedBy (a .rows .now) (c .before .loop .rows) (a .k)) (omega arith) (c .before .loop .inv .1)
+returns c = subst (ClosedRowsBy _ _ _) (omega arith) (c .before .loop .inv .1)
 
 pub close-by-spec : {M : Type 1} → statement M
 close-by-spec =
@@ -66,10 +43,9 @@ close-by-spec =
     Inv-loop
     μ-loop
     loop-holds
-    is-marked-requires
-    join-requires
-    add-i
-    loop-less
+    (λ c κs. search needs)
+    (λ c κs. search needs)
+    (λ c. search needs)
+    (λ c. search needs)
     loop-again
-    same-length
     returns)

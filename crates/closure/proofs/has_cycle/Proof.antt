@@ -1,11 +1,11 @@
--- `closure::has_cycle` meets its contract. The invariant: no event below v is marked in its own row.
-use Prim.Native.Nat.{ℕ, _-_, _≤_}
+-- The invariant: no event below v is marked in its own row.
+use Prim.Native.Nat.{_-_, _≤_}
 use native.Mathlib.Omega.{arith}
 use mathlib.Core.Bool.{false}
-use mathlib.Core.Path.{_≡_, sym, subst, _∙_}
+use mathlib.Core.Path.{_≡_}
 use borrow.Author.Needs.{needs}
-use Rattle.closure.specs.Closed.{cyclic}
-use Rattle.closure.proofs.Cycle.{start, more, found}
+use Rattle.closure.specs.ClosedRows.{cyclic}
+use Rattle.closure.proofs.Cycle.{start, more, found, none}
 use Rattle.closure.proofs.has_cycle.Statement.{statement}
 use Rattle.closure.proofs.has_cycle.Tie as tie
 
@@ -16,33 +16,18 @@ abbrev μ-loop : tie.MeasureT-loop
 μ-loop rows n v₀ v = n - v
 
 loop-holds : tie.Need-loop-holds Inv-loop μ-loop
-loop-holds c = (search needs, start (c .before .args .rows .now))
-
-is-marked-requires : tie.Need-is-marked-requires Inv-loop μ-loop
-is-marked-requires c κs = search needs
+loop-holds c = (search needs, start _ _ (omega arith))
 
 returns : tie.Need-returns Inv-loop μ-loop
-returns c =
-    let a = c .before .before .before .before .before .args in
-    found (a .rows .now) (a .n) (c .before .before .before .loop .v) (omega arith) (sym (c .before .is-marked .ensures) ∙ c .if1 .taken)
-
-add-v : tie.Need-add-v Inv-loop μ-loop
-add-v c = search needs
-
-loop-less : tie.Need-loop-less Inv-loop μ-loop
-loop-less c = search needs
+returns c = let at-loop : tie.At-loop Inv-loop μ-loop = search in found _ _ (at-loop .loop .v) (omega arith) (cc)
 
 loop-again : tie.Need-loop-again Inv-loop μ-loop
 loop-again c =
-    let l = c .before .before .before .loop in (
-      search needs,
-      more (c .before .before .before .before .before .args .rows .now) (l .v) (l .inv .1) (sym (c .before .is-marked .ensures) ∙ c .if1 .left),
-    )
+    let at-loop : tie.At-loop Inv-loop μ-loop = search in
+    (search needs, more _ _ (at-loop .loop .inv .1) (cc))
 
 returns-2 : tie.Need-returns-2 Inv-loop μ-loop
-returns-2 c =
-    let a = c .before .before .before .args in
-    sym (subst (λ (m : ℕ). cyclic (a .rows .now) m ≡ false) (omega arith) (c .before .loop .inv .1))
+returns-2 c = none _ _ _ (omega arith) (c .before .loop .inv .1)
 
 pub has-cycle-spec : {M : Type 1} → statement M
 has-cycle-spec =
@@ -51,9 +36,9 @@ has-cycle-spec =
     Inv-loop
     μ-loop
     loop-holds
-    is-marked-requires
+    (λ c κs. search needs)
     returns
-    add-v
-    loop-less
+    (λ c. search needs)
+    (λ c. search needs)
     loop-again
     returns-2)

@@ -1,15 +1,10 @@
--- `closure::is_skeleton` meets its contract: it negates what `meets` says.
-use mathlib.Core.Bool.{not}
-use mathlib.Core.Path.{ap}
+-- A pair is a skeleton pair exactly if the row of what is after its start and the row of what is before its end have no mark in common.
 use borrow.Author.Needs.{needs}
 use Rattle.closure.proofs.is_skeleton.Statement.{statement}
 use Rattle.closure.proofs.is_skeleton.Tie as tie
 
-meets-requires : tie.Need-meets-requires
-meets-requires c κs = search needs
-
 returns : tie.Need-returns
-returns c = ap not (c .meets .ensures)
+returns c = cc
 
 pub is-skeleton-spec : {M : Type 1} → statement M
-is-skeleton-spec = tie.close (tie.spec meets-requires returns)
+is-skeleton-spec = tie.close (tie.spec (λ c κs. search needs) returns)

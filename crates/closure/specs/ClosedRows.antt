@@ -5,28 +5,26 @@ use mathlib.Core.List.{List}
 use mathlib.Core.Logic.{⊎-elim}
 use mathlib.Core.Path.{_≡_, refl, subst}
 use lib.Dec.{T, ltb, ltb→lt, nltb→le}
-use lib.ListN.{length}
+use Rattle.ids.specs.Limits.{mostEvents}
 use Rattle.finite.specs.Bounded.{any, decide}
 use Rattle.marks.specs.Marks.{marked}
 use Rattle.closure.specs.Reach.{reach, reach-least}
 
 -- In the first i rows whatever reaches k now reaches what k reaches.
-pub record ClosedBy (old new : List ℕ) (k i : ℕ) : Type 0 where
-  pub size : length new ≡ length old
-  pub marks : (u v : ℕ) → v < 256 → marked new u v ≡ (marked old u v || (ltb u i && (marked old u k && marked old k v)))
+pub record ClosedRowsBy (old new : List ℕ) (k i : ℕ) : Type 0 where
+  pub marks : (u v : ℕ) → v < mostEvents → marked new u v ≡ (marked old u v || (ltb u i && (marked old u k && marked old k v)))
 
 -- The first n rows mark what the old marks reach with stops below k. Other rows are as before.
-pub record Closed (old new : List ℕ) (n k : ℕ) : Type 0 where
-  pub size : length new ≡ length old
-  pub marks : (u v : ℕ) → u < n → v < 256 → marked new u v ≡ reach k (marked old) u v
-  pub rest : (u v : ℕ) → n ≤ u → v < 256 → marked new u v ≡ marked old u v
+pub record ClosedRows (old new : List ℕ) (n k : ℕ) : Type 0 where
+  pub marks : (u v : ℕ) → u < n → v < mostEvents → marked new u v ≡ reach k (marked old) u v
+  pub rest : (u v : ℕ) → n ≤ u → v < mostEvents → marked new u v ≡ marked old u v
 
 -- Some event below n is marked in its own row.
 unfoldable pub cyclic : List ℕ → ℕ → Bool
 cyclic rows n = any n (λ v. marked rows v v)
 
 -- Closing marks no event that was marked in no row.
-pub closed-only : (old new : List ℕ) (n k : ℕ) → Closed old new n k → (v : ℕ) → v < 256 → ((u : ℕ) → T (marked old u v) → ⊥)
+pub closed-only : (old new : List ℕ) (n k : ℕ) → ClosedRows old new n k → (v : ℕ) → v < mostEvents → ((u : ℕ) → T (marked old u v) → ⊥)
     → (u : ℕ) → T (marked new u v) → ⊥
 closed-only old new n k g v h none u t =
     ⊎-elim
