@@ -5,11 +5,12 @@ use mathlib.Core.List.{List}
 use mathlib.Core.Logic.{⊎-elim}
 use mathlib.Core.Path.{_≡_, refl, sym, ap, subst₂, _∙_}
 use lib.Dec.{T, eqb}
-use lib.ListN.{getD}
+use lib.ListN.{length, getD}
 use mir.Facts.{yes-eqb}
 use Rattle.finite.specs.Sum.{on, sum, sum-ext, sum-add, sum-one, on-yes, sum-term, sum-row-more, sum-column-more}
+use Rattle.ids.specs.Limits.{mostEvents}
 use Rattle.marks.specs.Marks.{marked}
-use Rattle.tokenflow.specs.Rows.{fedBy, Exact, Raised, Rows, Drawn, Sized, MayDraw, MayGiveBack}
+use Rattle.tokenflow.specs.Rows.{fedBy, Exact, Raised, Rows, Drawn, MayDraw, MayGiveBack}
 
 -- marks stay exact: the one that is set or added has tokens
 raised-exact : (amount fed amount′ fed′ : List ℕ) (u w k : ℕ) → 0 < k → Raised amount fed amount′ fed′ u w k → Exact amount fed → Exact amount′ fed′
@@ -32,11 +33,11 @@ takenIn n r w = getD (r .share) w 0 + sum n (λ u. fedBy (r .amount) (r .fed) u 
 
 -- The rows hold a tokenflow of the events below n. Row w of `pred` marks what is before w.
 pub record Flowing (n : ℕ) (pred : List ℕ) (r : Rows) : Type 0 where
-  pub events : n ≤ 256
-  pub sized : Sized r
+  pub events : n ≤ mostEvents
+  pub room : n * mostEvents ≤ length (r .amount)
   pub exact : Exact (r .amount) (r .fed)
-  pub named : (u w : ℕ) → u < 256 → w < 256 → T (marked (r .fed) u w) → (u < n) × (w < n)
-  pub ordered : (u w : ℕ) → u < 256 → w < 256 → T (marked (r .fed) u w) → T (marked pred w u)
+  pub named : (u w : ℕ) → u < mostEvents → w < mostEvents → T (marked (r .fed) u w) → (u < n) × (w < n)
+  pub ordered : (u w : ℕ) → u < mostEvents → w < mostEvents → T (marked (r .fed) u w) → T (marked pred w u)
   pub gives-fit : (u : ℕ) → u < n → givenIn n r u < 4294967296
   pub takes-fit : (w : ℕ) → w < n → takenIn n r w < 4294967296
 
@@ -58,7 +59,7 @@ kept-back n r s k = record { gives = λ u l. sym (k .gives u l); takes = λ w l.
 unfoldable pub lacking : ℕ → Rows → ℕ
 lacking n r = sum n (λ w. getD (r .share) w 0)
 
-module _ (n : ℕ) (r r′ : Rows) (u w k : ℕ) (few : n ≤ 256) (d : Drawn r r′ u w k) where
+module _ (n : ℕ) (r r′ : Rows) (u w k : ℕ) (few : n ≤ mostEvents) (d : Drawn r r′ u w k) where
   row-more : (a : ℕ) → a < n → w < n → sum n (λ b. fedBy (r′ .amount) (r′ .fed) a b) ≡ sum n (λ b. fedBy (r .amount) (r .fed) a b) + on (eqb u a) k
   row-more a la lw =
       sum-ext n _ _ (λ b l. d .raised .more a b (omega arith) (omega arith)) ∙ sum-row-more n u w k a (λ b. fedBy (r .amount) (r .fed) a b) lw
@@ -75,27 +76,9 @@ module _ (n : ℕ) (r r′ : Rows) (u w k : ℕ) (few : n ≤ 256) (d : Drawn r 
       ∙ sum-add n (λ b. getD (r′ .share) b 0) (λ b. on (eqb w b) k)
       ∙ ap (λ (z : ℕ). sum n (λ b. getD (r′ .share) b 0) + z) (sum-one n w (λ b. k) l)
 
-  resized : Sized r → Sized r′
-  resized s =
-      record {
-        amounts = omega (arith, s .amounts, d .raised .amounts);
-        marks = omega (arith, s .marks, d .raised .marks);
-        frees = omega (arith, s .frees, d .spent .size);
-        shares = omega (arith, s .shares, d .covered .size);
-      }
-
-  sized-back : Sized r′ → Sized r
-  sized-back s =
-      record {
-        amounts = omega (arith, s .amounts, d .raised .amounts);
-        marks = omega (arith, s .marks, d .raised .marks);
-        frees = omega (arith, s .frees, d .spent .size);
-        shares = omega (arith, s .shares, d .covered .size);
-      }
-
 module _ (n : ℕ) (r r′ : Rows) (u w k : ℕ) (d : Drawn r r′ u w k) where
   -- tokens that are drawn are given and taken all the same
-  pub drawn-keeps : n ≤ 256 → u < n → w < n → Kept n r r′
+  pub drawn-keeps : n ≤ mostEvents → u < n → w < n → Kept n r r′
   unfolding givenIn takenIn
   drawn-keeps few lu lw =
       record {
@@ -109,7 +92,7 @@ module _ (n : ℕ) (r r′ : Rows) (u w k : ℕ) (d : Drawn r r′ u w k) where
       let same = drawn-keeps (f .events) lu lw in
       record {
         events = f .events;
-        sized = resized n r r′ u w k (f .events) d (f .sized);
+        room = omega (arith, f .room, d .raised .size);
         exact = raised-exact (r .amount) (r .fed) (r′ .amount) (r′ .fed) u w k pos (d .raised) (f .exact);
         named = λ a b la lb t. ⊎-elim (f .named a b la lb) (λ e. (omega (arith, e .0), omega (arith, e .1))) (d .raised .added a b lb t);
         ordered = λ a b la lb t. ⊎-elim (f .ordered a b la lb) (λ e. subst₂ (λ (x y : ℕ). T (marked pred x y)) (sym (e .1)) (sym (e .0)) before) (d .raised .added a b lb t);
@@ -123,7 +106,7 @@ module _ (n : ℕ) (r r′ : Rows) (u w k : ℕ) (d : Drawn r r′ u w k) where
       let same = drawn-keeps (f .events) lu lw in
       record {
         events = f .events;
-        sized = sized-back n r r′ u w k (f .events) d (f .sized);
+        room = omega (arith, f .room, d .raised .size);
         exact = e;
         named = λ a b la lb t. f .named a b la lb (d .raised .kept a b lb t);
         ordered = λ a b la lb t. f .ordered a b la lb (d .raised .kept a b lb t);
@@ -141,16 +124,18 @@ module _ (n : ℕ) (pred : List ℕ) (r : Rows) (f : Flowing n pred r) (u w k : 
         taker = omega (arith, f .events);
         free = hf;
         lacks = hs;
+        room = omega (arith, f .events, f .room);
         fits = omega (arith, f .takes-fit w lw, sum-term n (λ a. fedBy (r .amount) (r .fed) a w) u lu);
       }
 
-  pub may-give-back : T (marked (r .fed) u w) → k ≤ getD (r .amount) (u * 256 + w) 0 → MayGiveBack r u w k
+  pub may-give-back : T (marked (r .fed) u w) → k ≤ getD (r .amount) (u * mostEvents + w) 0 → MayGiveBack r u w k
   unfolding fedBy givenIn takenIn
   may-give-back m h =
-      let e = on-yes (marked (r .fed) u w) (getD (r .amount) (u * 256 + w) 0) m in
+      let e = on-yes (marked (r .fed) u w) (getD (r .amount) (u * mostEvents + w) 0) m in
       record {
         giver = omega (arith, f .events);
         taker = omega (arith, f .events);
+        room = omega (arith, f .events, f .room);
         feeds = m;
         given = h;
         free-fits = omega (arith, f .gives-fit u lu, sum-term n (λ b. fedBy (r .amount) (r .fed) u b) w lw, e);

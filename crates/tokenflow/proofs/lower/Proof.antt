@@ -1,77 +1,41 @@
--- `tokenflow::lower` meets its contract.
-use native.Mathlib.Numerals.{lt-of-le-of-ne}
-use mathlib.Core.Path.{sym}
+-- Rests on `Amounts.left-none` where the mark goes with the last tokens, `left-some` where some are left, and `lowered-exact` for the marks.
+use Prim.Native.Nat.{_+_, _-_, _*_}
+use native.Mathlib.Omega.{arith}
 use borrow.Author.Needs.{needs}
-use Rattle.tokenflow.proofs.Amounts.{lowered-gone, lowered-gone-exact, lowered-known, lowered-known-exact}
+use lib.ListN.{getD}
+use Rattle.tokenflow.proofs.Amounts.{counted, cleared, left-some, left-none, lowered-exact}
 use Rattle.tokenflow.proofs.lower.Statement.{statement}
 use Rattle.tokenflow.proofs.lower.Tie as tie
 
-mul-at : tie.Need-mul-at
-mul-at c = search needs
-
-add-at : tie.Need-add-at
-add-at c = search needs
-
-mul-have : tie.Need-mul-have
-mul-have c = search needs
-
-slice-read-have : tie.Need-slice-read-have
-slice-read-have c = search needs
-
-unmark-requires : tie.Need-unmark-requires
-unmark-requires c κs = search needs
-
-sub-amount : tie.Need-sub-amount
-sub-amount c = search needs
-
-mul-amount : tie.Need-mul-amount
-mul-amount c = search needs
-
-slice-write-amount : tie.Need-slice-write-amount
-slice-write-amount c = search needs
-
-same-length : tie.Need-same-length
-same-length c = search needs
-
 returns : tie.Need-returns
 returns c =
-    let s = c .before .before .before .before .before .before .before .before in
-    let a = s .args in
-    let e = c .before .before .before .before .if1 .taken in
-    let m = s .pre .1 .1 .1 .0 in
-    let hw = s .pre .1 .1 .0 .1 in (
-      lowered-gone (a .amount .now) (a .fed .now) (c .before .before .unmark .last .0) (a .u) (a .w) (a .k) hw m e (c .before .before .unmark .ensures),
-      lowered-gone-exact (a .amount .now) (a .fed .now) (c .before .before .unmark .last .0) (a .u) (a .w) (a .k) hw m e (c .before .before .unmark .ensures),
-    )
-
-same-length-2 : tie.Need-same-length-2
-same-length-2 c = search needs
+    let start : tie.Start = search in
+    let then1 : tie.Then1 = search in
+    let a = start .args in
+    let m = start .pre .1 .1 .0 in
+    let r = left-none (a .amount .now) (a .fed .now) (a .u .0) (a .w .0) (a .k) (search needs) (search needs) _ m (c .unmark .ensures) (then1 .if1 .taken) in
+    (r, lowered-exact (a .amount .now) (a .fed .now) _ _ (a .u .0) (a .w .0) (a .k) (search needs) (search needs) r (λ t. absurd (cleared (a .fed .now) (a .u .0) (a .w .0) m _ (c .unmark .ensures) (search needs) t)))
 
 returns-2 : tie.Need-returns-2
 returns-2 c =
-    let s = c .before .before .before .before in
-    let a = s .args in
-    let hu = s .pre .1 .1 .0 .0 in
-    let hw = s .pre .1 .1 .0 .1 in
-    let m = s .pre .1 .1 .1 .0 in
-    let le = s .pre .1 .1 .1 .1 in (
-      lowered-known (a .amount .now) (a .fed .now) (a .u) (a .w) (a .k) hu hw (s .pre .0) m le,
-      lowered-known-exact (a .amount .now) (a .fed .now) (a .u) (a .w) (a .k) hu hw (s .pre .0) m (lt-of-le-of-ne le (λ e. c .if1 .left (sym e))),
-    )
+    let start : tie.Start = search in
+    let a = start .args in
+    let m = start .pre .1 .1 .0 in
+    let r = left-some (a .amount .now) (a .fed .now) (a .u .0) (a .w .0) (a .k) (search needs) (search needs) (getD (a .amount .now) (a .u .0 * 256 + a .w .0) 0 - a .k) m (omega arith) in
+    (r, lowered-exact (a .amount .now) (a .fed .now) _ _ (a .u .0) (a .w .0) (a .k) (search needs) (search needs) r (λ t. omega (arith, counted (a .amount .now) (a .fed .now) (a .u .0) (a .w .0) m)))
 
 pub lower-spec : {M : Type 1} → statement M
 lower-spec =
     tie.close
     (tie.spec
-    mul-at
-    add-at
-    mul-have
-    slice-read-have
-    unmark-requires
-    sub-amount
-    mul-amount
-    slice-write-amount
-    same-length
+    (λ c. search needs)
+    (λ c. search needs)
+    (λ c. search needs)
+    (λ c. search needs)
+    (λ c κs. search needs)
+    (λ c. search needs)
+    (λ c. search needs)
+    (λ c. search needs)
     returns
-    same-length-2
+    (λ c. search needs)
     returns-2)
