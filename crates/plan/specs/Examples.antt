@@ -10,7 +10,7 @@ use Rattle.finite.specs.Bounded.{all, any, _⇒_}
 use Rattle.finite.specs.Subset.{Set, greatest, every}
 use Rattle.finite.specs.Sum.{sum, over, atEnd}
 use Rattle.plan.specs.Net.{Net, Plan}
-use Rattle.plan.specs.Order.{before, beforeBy, skeleton, paired, free}
+use Rattle.plan.specs.Order.{before, beforeBy, skeleton, paired, freeCount}
 use Rattle.plan.specs.Prefix.{prefix, front, tokens, lack, missing, smallest, endCount, runsAt}
 use Rattle.plan.specs.Flow.{inflow, outflow, shares, rule1, rule2, rule3, rule4, valid, otherwiseValid, overrun}
 
@@ -110,8 +110,8 @@ listingNet =
 pub listingPlan : Plan
 listingPlan = record { events = 3; label = at (0 ∷ 0 ∷ 1 ∷ []); pairs = 1; earlier = λ i. 0; later = λ i. 2 }
 
-pub listing-agrees : (free listingPlan ≡ 2) × (endCount listingNet listingPlan 0 ≡ negsuc 0) × (endCount listingNet listingPlan 1 ≡ pos 1) × (endCount listingNet listingPlan 2 ≡ pos 1) × (missing listingNet listingPlan 0 ≡ 1) × (missing listingNet listingPlan 1 ≡ 0) × (missing listingNet listingPlan 2 ≡ 0)
-unfolding listingNet listingPlan free paired endCount tokens missing lack prefix front before beforeBy all any sum over greatest
+pub listing-agrees : (freeCount listingPlan ≡ 2) × (endCount listingNet listingPlan 0 ≡ negsuc 0) × (endCount listingNet listingPlan 1 ≡ pos 1) × (endCount listingNet listingPlan 2 ≡ pos 1) × (missing listingNet listingPlan 0 ≡ 1) × (missing listingNet listingPlan 1 ≡ 0) × (missing listingNet listingPlan 2 ≡ 0)
+unfolding listingNet listingPlan freeCount paired endCount tokens missing lack prefix front before beforeBy all any sum over greatest
 listing-agrees = (refl, refl, refl, refl, refl, refl, refl)
 
 -- Four events in a row with the pair (0, 3) given as well: that one pair has events between its ends, so it is no skeleton pair.
