@@ -11,7 +11,7 @@ use Rattle.finite.specs.Subset.{Set, greatest, every}
 use Rattle.finite.specs.Sum.{sum, over, atEnd}
 use Rattle.plan.specs.Net.{Net, Plan}
 use Rattle.plan.specs.Order.{before, beforeBy, skeleton, paired, freeCount}
-use Rattle.plan.specs.Prefix.{prefix, front, tokens, lack, missing, smallest, endCount, runsAt}
+use Rattle.plan.specs.Prefix.{prefix, front, tokens, lack, missing, need, leastOpening, smallest, endCount, runsAt}
 use Rattle.plan.specs.Flow.{inflow, outflow, shares, rule1, rule2, rule3, rule4, valid, otherwiseValid, overrun}
 
 -- two numbers: an event as takes/gives, or a pair as (earlier, later)
@@ -67,6 +67,10 @@ rightSet : Example → Bool
 rightSet e =
     ltb 0 (e .missing) ⇒ all (length (e .events)) (λ v. Bool·beq (smallest (netOf e) (planOf e) 0 v) (holds (e .done) v))
 
+-- the least opening count is what the flow's shares come to
+rightLeast : Example → Bool
+rightLeast e = eqb (leastOpening (netOf e) (planOf e) 0) (shares (planOf e) (at (e .flow)))
+
 -- the flow is otherwise valid and overruns by the missing count; it is valid exactly if the plan runs
 rightFlow : Example → Bool
 rightFlow e =
@@ -74,7 +78,7 @@ rightFlow e =
 
 pub agree : List Example → Bool
 agree [] = true
-agree (e ∷ es) = rightCount e && rightSet e && rightFlow e && agree es
+agree (e ∷ es) = rightCount e && rightSet e && rightLeast e && rightFlow e && agree es
 
 pub starred : List Example
 starred =
@@ -93,7 +97,7 @@ starred =
     ∷ []
 
 pub starred-agree : T (agree starred)
-unfolding agree rightCount rightSet rightFlow starred holds all any sum over atEnd greatest every before beforeBy skeleton prefix front tokens lack missing smallest runsAt inflow outflow shares rule1 rule2 rule3 rule4 valid otherwiseValid overrun
+unfolding agree rightCount rightSet rightLeast rightFlow starred holds all any sum over atEnd greatest every before beforeBy skeleton prefix front tokens lack missing need leastOpening smallest runsAt inflow outflow shares rule1 rule2 rule3 rule4 valid otherwiseValid overrun
 starred-agree = tt
 
 -- The plan of document 01's listing: its free count, and each place's end and missing count.
