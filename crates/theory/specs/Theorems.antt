@@ -15,11 +15,11 @@ use Rattle.finite.specs.Subset.{Set, empty}
 use Rattle.finite.specs.Sum.{over, over-mono, sum-zero}
 use Rattle.plan.specs.Net.{Net, Plan, takenBy, Labelled}
 use Rattle.plan.specs.Order.{Sound}
-use Rattle.plan.specs.Prefix.{IsPrefix, front, full, stepLack, lack, above0, missing, need, leastOpening, runsAt, runs, smallest}
+use Rattle.plan.specs.Prefix.{IsPrefix, front, full, stepLack, lack, above0, missing, need, leastOpening, runsAt, runs, smallest, endCount}
 use Rattle.plan.specs.Cut.{IsCut, preset, Executable, Execution}
 use Rattle.plan.specs.Flow.{Flow, rule1, rule2, rule3, rule4, valid, otherwiseValid, overrun, shares}
-use Rattle.plan.specs.Compare.{withMore, opensWith, MoreOrder, SameAt}
-use Rattle.theory.specs.Comparisons.{least-opens, missing-more, missing-opens, missing-order, missing-same}
+use Rattle.plan.specs.Compare.{withMore, opensWith, MoreOrder, SameAt, SamePlace}
+use Rattle.theory.specs.Comparisons.{least-opens, missing-more, missing-opens, missing-order, missing-same, least-alike, missing-alike, lack-alike, smallest-alike, end-alike}
 use Rattle.theory.specs.Cuts.{takenUpTo, some-cut, prefixes-cuts, cuts-prefixes}
 use Rattle.theory.specs.Least.{taken, given, need-is, need-above0, least-bounds, least-attained}
 use Rattle.theory.specs.Missing.{supply, step-lack-is, lack-is, lack-above0, lack-need, missing-opening, missing-bounds, missing-attained}
@@ -76,6 +76,14 @@ pub record LeastOpening (N : Net) (P : Plan) (p : ℕ) : Type 0 where
   pub lack-above : (D : Set) → lack N P p D ≡ need N P p D -ℤ pos (N .opening p)
   pub missing-above : missing N P p ≡ leastOpening N P p - N .opening p
 
+-- All that is said of a place depends on what each event takes and gives there, the order and the opening count alone. In plans taken or not.
+pub record SameNumbers (N : Net) (P : Plan) (p : ℕ) (M : Net) (Q : Plan) (q : ℕ) : Type 0 where
+  pub same-least : leastOpening N P p ≡ leastOpening M Q q
+  pub same-missing : missing N P p ≡ missing M Q q
+  pub same-lack : (D : Set) → lack N P p D ≡ lack M Q q D
+  pub same-smallest : smallest N P p ≡ smallest M Q q
+  pub same-end : endCount N P p ≡ endCount M Q q
+
 -- Demand 3, about the definition.
 pub record LeastCount (N : Net) (P : Plan) (p : ℕ) : Type 0 where
   -- that many tokens more and it runs, fewer and it doesn't
@@ -107,6 +115,16 @@ above0-below (negsuc n) m h = omega arith
 pub runs-none : (N : Net) (P : Plan) (p : ℕ) → T (runsAt N P p) ↔ (missing N P p ≡ 0)
 unfolding runsAt
 runs-none N P p = (eqb→eq (missing N P p) 0, λ e. subst (λ (m : ℕ). T (eqb m 0)) (sym e) (eqb-refl 0))
+
+pub same-numbers : (N : Net) (P : Plan) (p : ℕ) (M : Net) (Q : Plan) (q : ℕ) → SamePlace N P p M Q q → SameNumbers N P p M Q q
+same-numbers N P p M Q q s =
+    record {
+      same-least = least-alike N P p M Q q s;
+      same-missing = missing-alike N P p M Q q s;
+      same-lack = lack-alike N P p M Q q s;
+      same-smallest = smallest-alike N P p M Q q s;
+      same-end = end-alike N P p M Q q s;
+    }
 
 module _ (N : Net) (P : Plan) (p : ℕ) (S : Sound P) where
   pub missing-is : IsMissing N P p (missing N P p)
