@@ -3,7 +3,7 @@ use Prim.Native.Nat.{ℕ, _+_, _-_, _≤_, _<_}
 use native.Mathlib.Nat.{le-antisymm}
 use native.Mathlib.Omega.{arith}
 use mathlib.Core.Bool.{Bool, true, false, cond, _&&_}
-use mathlib.Core.Logic.{⊎-elim}
+use mathlib.Core.Logic.{⊎-elim, _↔_}
 use mathlib.Core.Path.{_≡_, refl, sym, ap, ap₂, subst, fun-ext, _∙_}
 use lib.Dec.{T, eqb, eqb-refl, ltb}
 use lib.IntN.{ℤ, pos, _+ℤ_, _-ℤ_}
@@ -113,6 +113,14 @@ module _ (N : Net) (P : Plan) (p : ℕ) (M : Net) (Q : Plan) (q : ℕ) (s : Same
       (leastOpening N P p)
       (λ D w t. omega (arith, least-covers N P p D (record { below = λ v d. subst (λ (n : ℕ). v < n) (sym (s .events)) (w .below v d) }) (first-prefix order D t), first-takes order D, given-same D))
 
+-- With the same order it is the same, whatever the opening counts are.
+pub least-same : (N : Net) (P : Plan) (p : ℕ) (M : Net) (Q : Plan) (q : ℕ) → SameWeights N P p M Q q → ((u v : ℕ) → Before P u v ↔ Before Q u v)
+    → leastOpening N P p ≡ leastOpening M Q q
+least-same N P p M Q q s order =
+    le-antisymm
+    (least-order M Q q N P p (turned N P p M Q q s) (λ u v. order u v .1))
+    (least-order N P p M Q q s (λ u v. order u v .0))
+
 -- More order never raises the missing count.
 pub missing-order : (N : Net) (P Q : Plan) (p : ℕ) → MoreOrder P Q → missing N Q p ≤ missing N P p
 missing-order N P Q p m = omega (arith, missing-opening N P p, missing-opening N Q p, least-order N P p N Q p weights (m .order))
@@ -128,10 +136,7 @@ module _ (N : Net) (P : Plan) (p : ℕ) (M : Net) (Q : Plan) (q : ℕ) (s : Same
   back = turned N P p M Q q (s .weights)
 
   pub least-alike : leastOpening N P p ≡ leastOpening M Q q
-  least-alike =
-      le-antisymm
-      (least-order M Q q N P p back (λ u v. s .order u v .1))
-      (least-order N P p M Q q (s .weights) (λ u v. s .order u v .0))
+  least-alike = least-same N P p M Q q (s .weights) (s .order)
 
   pub missing-alike : missing N P p ≡ missing M Q q
   missing-alike = omega (arith, missing-opening N P p, missing-opening M Q q, least-alike, s .opening)

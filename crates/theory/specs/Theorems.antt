@@ -18,8 +18,8 @@ use Rattle.plan.specs.Order.{Sound}
 use Rattle.plan.specs.Prefix.{IsPrefix, front, full, stepLack, lack, above0, missing, need, leastOpening, runsAt, runs, smallest, endCount}
 use Rattle.plan.specs.Cut.{IsCut, preset, Executable, Execution}
 use Rattle.plan.specs.Flow.{Flow, rule1, rule2, rule3, rule4, valid, otherwiseValid, overrun, shares}
-use Rattle.plan.specs.Compare.{withMore, opensWith, MoreOrder, SameAt, SamePlace}
-use Rattle.theory.specs.Comparisons.{least-opens, missing-more, missing-opens, missing-order, missing-same, least-alike, missing-alike, lack-alike, smallest-alike, end-alike}
+use Rattle.plan.specs.Compare.{withMore, opensWith, MoreOrder, SameAt, SameWeights, SamePlace}
+use Rattle.theory.specs.Comparisons.{least-same, missing-more, missing-opens, missing-order, missing-same, least-alike, missing-alike, lack-alike, smallest-alike, end-alike}
 use Rattle.theory.specs.Cuts.{takenUpTo, some-cut, prefixes-cuts, cuts-prefixes}
 use Rattle.theory.specs.Least.{taken, given, need-is, need-above0, least-bounds, least-attained}
 use Rattle.theory.specs.Missing.{supply, step-lack-is, lack-is, lack-above0, lack-need, missing-opening, missing-bounds, missing-attained}
@@ -72,7 +72,7 @@ pub record LeastOpening (N : Net) (P : Plan) (p : ℕ) : Type 0 where
   pub shares-reached : (x : Flow) × T (otherwiseValid N P p x) × (shares P x ≡ leastOpening N P p)
   pub not-undercut : (x : Flow) → T (otherwiseValid N P p x) → leastOpening N P p ≤ shares P x
   -- it doesn't know the opening count; lack and missing count are what need and least opening count are above that
-  pub any-opening : (k : ℕ) → leastOpening (opensWith N p k) P p ≡ leastOpening N P p
+  pub any-opening : (M : Net) (q : ℕ) → SameWeights N P p M P q → leastOpening M P q ≡ leastOpening N P p
   pub lack-above : (D : Set) → lack N P p D ≡ need N P p D -ℤ pos (N .opening p)
   pub missing-above : missing N P p ≡ leastOpening N P p - N .opening p
 
@@ -234,7 +234,7 @@ module _ (N : Net) (P : Plan) (p : ℕ) (S : Sound P) where
         );
         shares-reached = shares-attained N P p S;
         not-undercut = λ x t. omega (arith, shares-bounds N P p S x t);
-        any-opening = least-opens N P p;
+        any-opening = λ M q s. sym (least-same N P p M P q s (λ u v. (λ b. b, λ b. b)));
         lack-above = lack-need N P p;
         missing-above = missing-opening N P p;
       }
