@@ -1,4 +1,3 @@
-mod Links
 mod Walks
 mod Turns
 mod Stores

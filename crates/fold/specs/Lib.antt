@@ -1,6 +1,7 @@
 pub mod Folded
 pub mod Carried
-pub mod Filling
+pub mod FoldedTo
 pub mod Linked
 pub mod Written
 pub mod Feeding
+pub mod Promises
