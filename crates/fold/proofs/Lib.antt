@@ -1,3 +1,4 @@
+mod Links
 mod Walks
 mod Turns
 mod Stores

@@ -5,7 +5,6 @@ use mathlib.Core.Bool.{true, false}
 use mathlib.Core.List.{List}
 use mathlib.Core.Path.{_≡_, refl, sym, ap, subst, _∙_}
 use denote.Floats.{passes}
-use lib.Dec.{T}
 use lib.ListN.{length, getD}
 use Rattle.ids.specs.Limits.{mostEvents}
 use Rattle.finite.specs.Search.{fails}

@@ -5,3 +5,4 @@ pub mod Linked
 pub mod Written
 pub mod Feeding
 pub mod Promises
+pub mod FromSheet

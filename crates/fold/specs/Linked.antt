@@ -15,6 +15,11 @@ use Rattle.closure.specs.PlanRows.{Successors}
 abbrev pub numberOf : List ℕ → ℕ → ℕ → ℕ
 numberOf index a b = getD index (a * mostEvents + b) 0
 
+-- The second index has the number i for a and b, and is else the first.
+pub record Numbered (old new : List ℕ) (a b i : ℕ) : Type 0 where
+  pub here : numberOf new a b ≡ i
+  pub others : (at : ℕ) → (at ≡ a * mostEvents + b → ⊥) → getD new at 0 ≡ getD old at 0
+
 -- i is a skeleton pair from a to b, one of the first m pairs
 pub record IsLink (P : Plan) (m a b i : ℕ) : Type 0 where
   pub named : i < m

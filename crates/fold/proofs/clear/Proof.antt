@@ -1,7 +1,7 @@
 -- The invariant: the first i numbers are 0.
 use Prim.Native.Nat.{_-_, _≤_}
 use native.Mathlib.Omega.{arith}
-use mathlib.Core.Path.{_≡_, refl}
+use mathlib.Core.Path.{_≡_}
 use borrow.Author.Needs.{needs}
 use lib.ListN.{length}
 use Rattle.fold.proofs.Stores.{Cleared, clear-start, clear-more, clear-done}
@@ -20,7 +20,7 @@ loop-holds c = (search needs, search needs, clear-start _ _ (omega arith))
 loop-again : tie.Need-loop-again Inv-loop μ-loop
 loop-again c =
     let at-loop : tie.At-loop Inv-loop μ-loop = search in
-    (search needs, search needs, clear-more _ _ _ (omega arith) _ refl (at-loop .loop .inv .2))
+    (search needs, search needs, clear-more _ _ _ (omega arith) _ (omega arith) (at-loop .loop .inv .2))
 
 returns : tie.Need-returns Inv-loop μ-loop
 returns c = clear-done _ _ _ (omega arith) (c .before .loop .inv .2)

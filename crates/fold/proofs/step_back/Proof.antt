@@ -1,5 +1,4 @@
 -- u is one pair back where it is marked so, and else some event after u is: the last skeleton pair into `cur` starts there.
-use native.Mathlib.Omega.{arith}
 use mathlib.Core.Path.{subst}
 use borrow.Author.Needs.{needs}
 use Rattle.marks.specs.Search.{Both, Tells}

@@ -1,6 +1,5 @@
 -- The invariant: in every plan that has the rows the tokens are carried from `cur` on, and `cur` is u or after it. Each step leaves fewer events between.
 use Prim.Native.Nat.{_<_}
-use native.Mathlib.Omega.{arith}
 use borrow.Author.Needs.{needs}
 use Rattle.ids.specs.Limits.{mostEvents}
 use Rattle.fold.proofs.Walks.{steps, Walking, walk-start, walk-done, walk-step, walk-fewer, walk-named, walk-room, walk-more}

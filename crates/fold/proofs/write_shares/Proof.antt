@@ -1,7 +1,7 @@
 -- The invariant: the first v shares are written, and what follows them is as it was.
 use Prim.Native.Nat.{_-_, _≤_}
 use native.Mathlib.Omega.{arith}
-use mathlib.Core.Path.{refl, subst}
+use mathlib.Core.Path.{subst}
 use borrow.Author.Needs.{needs}
 use Rattle.fold.specs.Written.{SharesWritten}
 use Rattle.fold.proofs.Stores.{shares-start, shares-more}
@@ -20,7 +20,7 @@ loop-holds c = (search needs, shares-start _ _ _ (omega arith))
 loop-again : tie.Need-loop-again Inv-loop μ-loop
 loop-again c =
     let at-loop : tie.At-loop Inv-loop μ-loop = search in
-    (search needs, shares-more _ _ _ (omega arith) _ _ refl (at-loop .loop .inv .1))
+    (search needs, shares-more _ _ _ (omega arith) _ _ (search needs) (at-loop .loop .inv .1))
 
 returns : tie.Need-returns Inv-loop μ-loop
 returns c = subst (SharesWritten _ _ _) (omega arith) (c .before .loop .inv .1)
