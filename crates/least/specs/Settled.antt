@@ -15,7 +15,7 @@ use Rattle.marks.specs.Marks.{marked}
 use Rattle.plan.specs.Net.{Net, Plan}
 use Rattle.plan.specs.Prefix.{leastOpening, missing, smallest}
 use Rattle.theory.specs.Skeleton.{before-earlier}
-use Rattle.theory.specs.Missing.{missing-least}
+use Rattle.theory.specs.Missing.{missing-opening}
 use Rattle.theory.specs.Tokenflow.{Tokenflow, Settled, least-within, settled-least, settled-smallest}
 use Rattle.tokenflow.specs.Rows.{fedBy, Rows, rowsAre}
 use Rattle.tokenflow.specs.Flowing.{Flowing, Kept, givenIn, takenIn, lacking}
@@ -54,8 +54,8 @@ module _ (N : Net) (P : Plan) (p enough : ℕ) (pred : List ℕ) (r : Rows) (giv
   pub missing-told : enough ≡ N .opening p → lacks - enough ≡ missing N P p
   missing-told opens =
       by-enough
-      (λ above. omega (arith, s .exact above, missing-least N P p, opens))
-      (λ within. omega (arith, s .least, missing-least N P p, opens))
+      (λ above. omega (arith, s .exact above, missing-opening N P p, opens))
+      (λ within. omega (arith, s .least, missing-opening N P p, opens))
 
   pub least-told : enough ≡ 0 → lacks ≡ leastOpening N P p
   least-told none = by-enough (λ above. sym (s .exact above)) (λ within. omega (arith, s .least))
