@@ -94,7 +94,14 @@ module _ (N : Net) (P : Plan) (p : ℕ) (M : Net) (Q : Plan) (q : ℕ) (s : Same
         subst
         (λ (n : ℕ). over n (reached Q D) (takenBy M Q q) ≤ taken N P p D)
         (s .events)
-        (sum-mono (P .events) _ _ (λ v l. subst (λ (t : ℕ). on (reached Q D v) t ≤ on (reached P D v) (takenBy N P p v)) (s .takes v l) (on-mono (reached Q D v) (reached P D v) (takenBy N P p v) (first-reached v))))
+        (sum-mono (P .events) _ _ at-event)
+      where
+        at-event : (v : ℕ) → v < P .events → on (reached Q D v) (takenBy M Q q v) ≤ on (reached P D v) (takenBy N P p v)
+        at-event v l =
+            subst
+            (λ (t : ℕ). on (reached Q D v) t ≤ on (reached P D v) (takenBy N P p v))
+            (s .takes v l)
+            (on-mono (reached Q D v) (reached P D v) (takenBy N P p v) (first-reached v))
 
   -- More order never raises the least opening count.
   pub least-order : ((u v : ℕ) → Before P u v → Before Q u v) → leastOpening M Q q ≤ leastOpening N P p

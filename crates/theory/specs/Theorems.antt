@@ -113,8 +113,13 @@ module _ (N : Net) (P : Plan) (p : ℕ) (S : Sound P) where
   missing-is =
       record {
         bounds = λ D d. below-above0 (lack N P p D) (missing N P p) (omega (arith, missing-bounds N P p S D d, lack-above0 N P p D));
-        attained = ⊎-elim inl (λ l. let w = missing-attained N P p S in inr (w .0, w .1, positive (lack N P p (w .0)) (missing N P p) (omega (arith, w .2, lack-above0 N P p (w .0))) l)) (eq-zero-or-pos (missing N P p));
+        attained = ⊎-elim inl (λ l. inr (reached l)) (eq-zero-or-pos (missing N P p));
       }
+    where
+      reached : 0 < missing N P p → (D : Set) × IsPrefix P D × (lack N P p D ≡ pos (missing N P p))
+      reached l =
+          let w = missing-attained N P p S in
+          (w .0, w .1, positive (lack N P p (w .0)) (missing N P p) (omega (arith, w .2, lack-above0 N P p (w .0))) l)
 
   pub hardest : Hardest N P p
   unfolding lack
@@ -166,7 +171,10 @@ module _ (N : Net) (P : Plan) (p : ℕ) (S : Sound P) where
       record {
         by-prefixes = (λ t D d. no-lack D .1 (run-prefixes t D d), λ h. prefixes-run (λ D d. no-lack D .0 (h D d)));
         by-cuts = (λ t. prefixes-cuts N P p S (run-prefixes t), λ x. prefixes-run (cuts-prefixes N P p S x));
-        by-flows = (λ t. let w = overrun-attained N P p S in (w .0, valid-is (w .0) .1 (w .1, omega (arith, w .2, runs-none N P p .0 t))), λ w. let v = valid-is (w .0) .0 (w .1) in runs-none N P p .1 (omega (arith, overrun-bounds N P p S (w .0) (v .0), v .1)));
+        by-flows = (
+          λ t. let w = overrun-attained N P p S in (w .0, valid-is (w .0) .1 (w .1, omega (arith, w .2, runs-none N P p .0 t))),
+          λ w. let v = valid-is (w .0) .0 (w .1) in runs-none N P p .1 (omega (arith, overrun-bounds N P p S (w .0) (v .0), v .1)),
+        );
       }
 
   -- Where something is missing, the done sets with the greatest lack have one that is contained in all the others.
@@ -177,7 +185,9 @@ module _ (N : Net) (P : Plan) (p : ℕ) (S : Sound P) where
   need-empty : need N P p empty ≡ pos (above0 (need N P p empty))
   unfolding over
   need-empty =
-      from-zero (need N P p empty) (subst (λ (z : ℤ). T (leZ (pos 0) z)) (sym (need-is N P p empty)) (le-minus 0 (taken N P p empty) (given N P p empty) .1 (omega (arith, sum-zero (P .events) (λ v. 0) (λ v l. refl)))))
+      let none : given N P p empty ≡ 0 = sum-zero (P .events) (λ v. 0) (λ v l. refl) in
+      let from = le-minus 0 (taken N P p empty) (given N P p empty) .1 (omega (arith, none)) in
+      from-zero (need N P p empty) (subst (λ (z : ℤ). T (leZ (pos 0) z)) (sym (need-is N P p empty)) from)
     where
       from-zero : (z : ℤ) → T (leZ (pos 0) z) → z ≡ pos (above0 z)
       from-zero (pos n) t = refl
