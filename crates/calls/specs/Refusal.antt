@@ -1,7 +1,7 @@
 -- What a chain of tests knows of a call's fault: its number, and the sheet's layout where there is none.
 use Prim.Native.Nat.{ℕ, zero, suc, _+_, _≤_, _<_}
 use native.Mathlib.Omega.{arith}
-use mathlib.Core.Bool.{Bool}
+use mathlib.Core.Bool.{Bool, true, false}
 use mathlib.Core.List.{List}
 use mathlib.Core.Path.{_≡_, refl, sym, ap, ap₂, subst, _∙_}
 use lib.Dec.{leb, ltb}
@@ -10,12 +10,22 @@ use Rattle.sheet.specs.Faults.{faultOf}
 use Rattle.sheet.specs.Table.{placesOf}
 use Rattle.layout.specs.Layout.{LayoutOf}
 use Rattle.fault.specs.declared.Examined.{Examined}
-use Rattle.calls.specs.Call.{nextFault, placeFault, rowFault}
+use Rattle.calls.specs.Call.{nextFault, lower-told, here-told, none-told, placeFault, rowFault}
 
 -- One link: the fault k, if a lower one isn't there and the test finds it.
 pub record Next (e : Examined) (found : Bool) (k : ℕ) (r : Examined) : Type 0 where
   pub fault : r .fault ≡ nextFault (e .fault) found k
   pub layout : r .layout ≡ e .layout
+
+module _ (e : Examined) (found : Bool) (k : ℕ) where
+  pub next-lower : ¬ (e .fault ≡ 0) → Next e found k e
+  next-lower some = record { fault = sym (lower-told (e .fault) found k some); layout = refl }
+
+  pub next-not : e .fault ≡ 0 → found ≡ false → Next e found k e
+  next-not none not = record { fault = none ∙ sym (none-told (e .fault) found k none not); layout = refl }
+
+  pub next-here : e .fault ≡ 0 → found ≡ true → (r : Examined) → r .fault ≡ k → r .layout ≡ e .layout → Next e found k r
+  next-here none here r told same = record { fault = told ∙ sym (here-told (e .fault) found k none here); layout = same }
 
 -- An examination that tells the fault of a call that is lent the sheet s. Its layout is the sheet's if there is none.
 pub record FaultTold (s : List ℕ) (fault : ℕ) (e : Examined) : Type 0 where

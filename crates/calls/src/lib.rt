@@ -14,13 +14,11 @@ fn next(e: Examined, found: bool, k: u32) -> Examined
     if lower != 0 {
         return e;
     }
-    if !found {
-        return e;
+    if found {
+        let layout = e.layout;
+        return Examined { fault: k, layout };
     }
-    Examined {
-        fault: k,
-        layout: e.layout,
-    }
+    e
 }
 
 // 12: the place number isn't in the net.

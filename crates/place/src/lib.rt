@@ -74,7 +74,17 @@ pub fn settle_place(
     let mut free = [0u32; EVENTS];
     fill(s, l, p, &mut free, share);
     let n = l.events;
-    settle_rows(pred, order, amount, fed, &mut free, share, givers, enough, n)
+    settle_rows(
+        pred,
+        order,
+        amount,
+        fed,
+        &mut free,
+        share,
+        givers,
+        enough,
+        n,
+    )
 }
 
 // What is lacking above the opening count.

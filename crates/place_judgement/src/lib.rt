@@ -23,6 +23,7 @@ use layout::Layout;
 use place::missing_count;
 
 mod handing;
+
 use handing::hand_flow;
 use handing::hand_marks;
 
@@ -58,7 +59,17 @@ fn judge_known(
     let mut share = [0u32; EVENTS];
     let mut givers = [0u32; WORDS];
     event_order(pred, l.events, &mut order);
-    let m = missing_count(s, l, p, pred, &order, &mut amount, &mut fed, &mut share, &mut givers);
+    let m = missing_count(
+        s,
+        l,
+        p,
+        pred,
+        &order,
+        &mut amount,
+        &mut fed,
+        &mut share,
+        &mut givers,
+    );
     hand_flow(s, l, p, succ, pred, &amount, &fed, &share, m, flow);
     hand_marks(&givers, m, marks, l.events);
     m
@@ -75,7 +86,11 @@ pub fn judge_place(s: &[u8], p: Place, flow: &mut [u32], marks: &mut [u8]) -> Ju
     let mut pred = [0u32; ROWS];
     let seen = examine(s, &mut succ, &mut pred);
     let placed = with_place(seen, p);
-    let numbered = with_row(placed, flow.len(), placed.layout.pairs + placed.layout.events);
+    let numbered = with_row(
+        placed,
+        flow.len(),
+        placed.layout.pairs + placed.layout.events,
+    );
     let e = with_row(numbered, marks.len(), numbered.layout.events);
     let k = e.fault;
     if k != 0 {

@@ -97,7 +97,10 @@ fn count_places(
     ensures { λ r. ⌜ FirstTo (was s) (l .places) r ⌝ }
 {
     let none = [0u32; WORDS];
-    let mut first = First { short: false, done: none };
+    let mut first = First {
+        short: false,
+        done: none,
+    };
     for p in 0..l.places {
         first = count_place(s, l, Place(p), pred, order, amount, fed, row, first);
     }
