@@ -1,5 +1,6 @@
 -- Test after test, in the order of the list: what each test said of the sheet, and the fault that is told by it. The layout is read once the table
 -- is there.
+use native.Mathlib.Omega.{arith}
 use mathlib.Core.Bool.{false}
 use mathlib.Core.Path.{_≡_, sym, _∙_}
 use borrow.Author.Needs.{needs}
@@ -30,7 +31,7 @@ known c = limited _ (no-1 (search)) (no-2 c)
 returns-2 : tie.Need-returns-2
 returns-2 c =
     let read : tie.After-layout-of = search in
-    fault-2 _ (no-1 (search)) (sym (c .before .over-limit .ensures _ (read .layout-of .ensures)) ∙ c .if2 .taken)
+    omega (arith, fault-2 _ (no-1 (search)) (sym (c .before .over-limit .ensures _ (read .layout-of .ensures)) ∙ c .if2 .taken))
 
 misplaced-body-requires : tie.Need-misplaced-body-requires
 misplaced-body-requires c κs = let read : tie.After-layout-of = search in within _ _ (known (search)) (read .layout-of .ensures)
@@ -39,7 +40,7 @@ returns-3 : tie.Need-returns-3
 returns-3 c =
     let read : tie.After-layout-of = search in
     let told = c .before .misplaced-body .ensures _ (read .layout-of .ensures) in
-    fault-3 _ (no-1 (search)) (no-2 (search)) (sym told ∙ c .if3 .taken)
+    omega (arith, fault-3 _ (no-1 (search)) (no-2 (search)) (sym told ∙ c .if3 .taken))
 
 wrong-end-requires : tie.Need-wrong-end-requires
 wrong-end-requires c κs =
@@ -52,12 +53,12 @@ layout-fault-spec =
     tie.close
     (tie.spec
     (λ c κs. search needs)
-    (λ c. fault-1 _ (sym (c .before .too-short .ensures) ∙ c .if1 .taken))
+    (λ c. omega (arith, fault-1 _ (sym (c .before .too-short .ensures) ∙ c .if1 .taken)))
     (λ c κs. whole _ (no-1 (search)))
     (λ c κs. search needs)
     returns-2
     misplaced-body-requires
     returns-3
     wrong-end-requires
-    (λ c. fault-4 _ (no-1 (search)) (no-2 (search)) (no-3 (search)) (sym (c .before .wrong-end .ensures) ∙ c .if4 .taken))
-    (λ c. no-fault _ (no-1 (search)) (no-2 (search)) (no-3 (search)) (sym (c .before .wrong-end .ensures) ∙ c .if4 .left)))
+    (λ c. omega (arith, fault-4 _ (no-1 (search)) (no-2 (search)) (no-3 (search)) (sym (c .before .wrong-end .ensures) ∙ c .if4 .taken)))
+    (λ c. omega (arith, no-fault _ (no-1 (search)) (no-2 (search)) (no-3 (search)) (sym (c .before .wrong-end .ensures) ∙ c .if4 .left))))
