@@ -10,7 +10,7 @@ use mir.Facts.{and-yes, yes-and, or-yes, yes-eqb}
 use Rattle.finite.specs.Bounded.{any, any-yes, decide, same, yes-or-left, yes-or-right}
 use Rattle.finite.specs.Sum.{on, sum, sum-ext, sum-add, sum-one, on-sum}
 use Rattle.plan.specs.Net.{Plan}
-use Rattle.plan.specs.Order.{Before, pair, chain, Sound, paired, free}
+use Rattle.plan.specs.Order.{Before, pair, chain, Sound, paired, freeCount}
 
 ones : (n : ℕ) → sum n (λ u. 1) ≡ n
 unfolding sum
@@ -107,8 +107,8 @@ module _ (P : Plan) where
     freed zero l = omega arith
     freed (suc k) l = omega (arith, freed k (le-of-lt l), fewer k l)
 
-    pub free-pairs : 2 * (free P + P .pairs) + P .events ≡ P .events * P .events
-    unfolding freeBy free paired matches any
+    pub free-pairs : 2 * (freeCount P + P .pairs) + P .events ≡ P .events * P .events
+    unfolding freeBy freeCount paired matches any
     free-pairs = omega (arith, freed (P .pairs) (le-refl (P .pairs)), all-pairs (P .events))
 
 -- at most 256 events

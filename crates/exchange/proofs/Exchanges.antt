@@ -12,7 +12,7 @@ use Rattle.finite.specs.Sum.{on-yes, on-no, on-le}
 use Rattle.marks.specs.Marks.{marked}
 use Rattle.tokenflow.specs.Rows.{Rows, Drawn, Exact, MayDraw}
 use Rattle.tokenflow.specs.Flowing.{Flowing, kept-then, kept-back, drawn-keeps, drawn-flows, given-back-flows, drawn-lacking, may-draw}
-use Rattle.drawing.specs.Moves.{moved-none, drawn-sizes}
+use Rattle.drawing.specs.Moves.{moved-none}
 use Rattle.exchange.specs.Exchange.{Exchanged}
 
 pub exchanged-none : (n : ℕ) (pred : List ℕ) (r : Rows) (u w v : ℕ) → Flowing n pred r → min (getD (r .free) u 0) (getD (r .amount) (v * 256 + w) 0) ≡ 0 → Exchanged n pred r r u w v 0
@@ -51,17 +51,10 @@ module _ (n : ℕ) (pred : List ℕ) (r m : Rows) (u w v k : ℕ) (f : Flowing n
       let pos : 0 < k = omega arith in
       let lackedBack = drawn-lacking n m r v w k (f .events) back lw in
       let lacked = drawn-lacking n m r′ u w k (f .events) d lw in
-      let sizesBack = drawn-sizes m r v w k back in
-      let sizes = drawn-sizes m r′ u w k d in
       record {
         most = most;
         moved = record {
-          sizes = record {
-            amounts = sizes .amounts ∙ sym (sizesBack .amounts);
-            marks = sizes .marks ∙ sym (sizesBack .marks);
-            frees = sizes .frees ∙ sym (sizesBack .frees);
-            shares = sizes .shares ∙ sym (sizesBack .shares);
-          };
+          size = d .raised .size ∙ sym (back .raised .size);
           flows = drawn-flows n m r′ u w k d pred middle pos lu lw before;
           kept = kept-then n r m r′ (kept-back n m r (drawn-keeps n m r v w k back (f .events) lv lw)) (drawn-keeps n m r′ u w k d (f .events) lu lw);
           lacks = omega (arith, lackedBack, lacked);

@@ -11,14 +11,14 @@ use Rattle.tokenflow.specs.Rows.{fedBy, Rows}
 use Rattle.tokenflow.specs.Flowing.{Flowing}
 use Rattle.search.specs.Trail.{_!_, Takers, Givers, takersOf, giversOf, FedBy, MetBy}
 use Rattle.exchange.specs.Exchange.{Exchanged}
-use Rattle.exchange.specs.Walk.{TrailRows, IsReady, TakerPlace, NextGiver}
+use Rattle.exchange.specs.Walk.{trailRows, IsReady, TakerPlace, NextGiver}
 
-module _ (n : ℕ) (pred : List ℕ) (m : TrailRows) (r : Rows) (u : ℕ) (row : List ℕ) (tail : ℕ) (met : List ℕ) (h : IsReady n pred m r u row tail met) where
+module _ {n : ℕ} {pred queue origin via : List ℕ} {r : Rows} {u : ℕ} {row : List ℕ} {tail : ℕ} {met : List ℕ} (h : IsReady n pred (trailRows queue origin via) r u row tail met) where
   t : Takers
-  t = takersOf row (m .queue) (m .origin) tail
+  t = takersOf row queue origin tail
 
   g : Givers
-  g = giversOf met (m .via)
+  g = giversOf met via
 
   way : MetBy pred t g u
   unfolding t g
@@ -27,26 +27,26 @@ module _ (n : ℕ) (pred : List ℕ) (m : TrailRows) (r : Rows) (u : ℕ) (row :
   pub has-free : ¬ (getD (r .free) u 0 ≡ 0)
   has-free e = omega (arith, h .1 .free)
 
-  pub has-place : TakerPlace n pred (m .queue) (m .via) u (m .via ! u)
+  pub has-place : TakerPlace n pred queue via u (via ! u)
   unfolding t g
   has-place =
-      record { here = refl; near = omega (arith, way .place, h .0 .few); names = h .0 .takers (m .via ! u) (way .place); ahead = way .before }
+      record { here = refl; near = omega (arith, way .place, h .0 .few); names = h .0 .takers (via ! u) (way .place); ahead = way .before }
 
   -- at the place by way of which u was met, a taker that lacks nothing
-  module _ (at : ℕ) (here : at ≡ m .via ! u) (none : getD (r .share) (m .queue ! at) 0 ≡ 0) where
-    fed-there : FedBy (r .fed) (takersOf row (m .queue) (m .origin) tail) (giversOf met (m .via)) at
+  module _ (at : ℕ) (here : at ≡ via ! u) (none : getD (r .share) (queue ! at) 0 ≡ 0) where
+    fed-there : FedBy (r .fed) (takersOf row queue origin tail) (giversOf met via) at
     fed-there = ⊎-elim (λ l. absurd (omega arith)) (λ f. f) (h .1 .reason at (omega arith))
 
-    pub has-next : NextGiver n (m .origin) (m .via) (r .fed) at (m .queue ! at) (m .origin ! at)
+    pub has-next : NextGiver n origin via (r .fed) at (queue ! at) (origin ! at)
     has-next =
-        record { here = refl; names = h .0 .givers (m .origin ! at) (fed-there .giver); earlier = fed-there .earlier; feeds = fed-there .feeds }
+        record { here = refl; names = h .0 .givers (origin ! at) (fed-there .giver); earlier = fed-there .earlier; feeds = fed-there .feeds }
 
     -- after an exchange there, the origin is ready
-    origin-ready : (r′ : Rows) (k : ℕ) → Flowing n pred r → Exchanged n pred r r′ u (m .queue ! at) (m .origin ! at) k → IsReady n pred m r′ (m .origin ! at) row tail met
+    origin-ready : (r′ : Rows) (k : ℕ) → Flowing n pred r → Exchanged n pred r r′ u (queue ! at) (origin ! at) k → IsReady n pred (trailRows queue origin via) r′ (origin ! at) row tail met
     unfolding t g fedBy
     origin-ready r′ k f x =
-        let w : ℕ = m .queue ! at in
-        let v : ℕ = m .origin ! at in
+        let w : ℕ = queue ! at in
+        let v : ℕ = origin ! at in
         let o = fed-there in
         let placed : at < tail = omega (arith, way .place) in
         let full = f .exact .flows v w (omega (arith, has-next .names, f .events)) (omega (arith, h .0 .takers at placed, f .events)) (o .feeds) in
@@ -58,12 +58,12 @@ module _ (n : ℕ) (pred : List ℕ) (m : TrailRows) (r : Rows) (u : ℕ) (row :
             reason = λ i l.
                 let low : i < at = omega (arith, o .earlier) in
                 ⊎-elim
-                (λ s. inl (omega (arith, x .shares (m .queue ! i))))
-                (λ b. inr (record { giver = b .giver; feeds = x .others (m .origin ! i) (m .queue ! i) (omega (arith, h .0 .takers i (omega arith), f .events)) (λ same. h .0 .once i at low placed same) (b .feeds); earlier = b .earlier }))
+                (λ s. inl (omega (arith, x .shares (queue ! i))))
+                (λ b. inr (record { giver = b .giver; feeds = x .others (origin ! i) (queue ! i) (omega (arith, h .0 .takers i (omega arith), f .events)) (λ same. h .0 .once i at low placed same) (b .feeds); earlier = b .earlier }))
                 (h .1 .reason i (omega arith));
           },
         )
 
-    pub next-ready : (v : ℕ) → v ≡ m .origin ! at → (r′ : Rows) (k : ℕ) → Flowing n pred r → Exchanged n pred r r′ u (m .queue ! at) v k → IsReady n pred m r′ v row tail met
+    pub next-ready : (v : ℕ) → v ≡ origin ! at → (r′ : Rows) (k : ℕ) → Flowing n pred r → Exchanged n pred r r′ u (queue ! at) v k → IsReady n pred (trailRows queue origin via) r′ v row tail met
     next-ready v e r′ k f =
-        subst (λ (z : ℕ). Exchanged n pred r r′ u (m .queue ! at) z k → IsReady n pred m r′ z row tail met) (sym e) (origin-ready r′ k f)
+        subst (λ (z : ℕ). Exchanged n pred r r′ u (queue ! at) z k → IsReady n pred (trailRows queue origin via) r′ z row tail met) (sym e) (origin-ready r′ k f)

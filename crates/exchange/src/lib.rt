@@ -1,38 +1,43 @@
 // Exchanges of givers: one feeds a taker in place of another, along the trail of a search, until a taker that lacks tokens draws some.
 ghost use Prim.Native.Nat.{_<_, _≤_};
 ghost use lib.Dec.{T};
-ghost use lib.ListN.{length};
-ghost use Rattle.marks.specs.Marks.{marked, HasRows};
+ghost use Rattle.ids.specs.Lent.{was};
+ghost use Rattle.ids.specs.Limits.{mostEvents};
+ghost use Rattle.marks.specs.Marks.{marked};
 ghost use Rattle.marks.specs.Search.{Tells};
-ghost use Rattle.tokenflow.specs.Rows.{rows};
-ghost use Rattle.tokenflow.specs.Flowing.{Flowing};
-ghost use Rattle.drawing.specs.Moves.{Moved};
+ghost use Rattle.tokenflow.specs.Rows.{rowsWere, rowsAre};
+ghost use Rattle.drawing.specs.Moves.{Holds, Moves};
 ghost use Rattle.exchange.specs.Exchange.{Exchanged};
-ghost use Rattle.exchange.specs.Walk.{trailRows, TakerPlace, NextGiver, Stepped, Walked};
+ghost use Rattle.exchange.specs.Walk.{trailWas, TakerPlace, NextGiver, TellsGiver, Stepped, Walked};
 use drawing::draw_most;
 use drawing::least;
+use ids::EVENTS;
+use ids::Event;
+use ids::ROWS;
 use marks::Found;
 use tokenflow::draw;
 use tokenflow::give_back;
 
 // u feeds w in place of v, by all the tokens that u has free and v feeds. Returns how many.
 pub fn exchange(
-    pred: &[u32],
+    pred: &[u32; ROWS],
     amount: &mut [u32],
-    fed: &mut [u32],
-    free: &mut [u32],
-    share: &mut [u32],
-    u: usize,
-    w: usize,
-    v: usize,
+    fed: &mut [u32; ROWS],
+    free: &mut [u32; EVENTS],
+    share: &mut [u32; EVENTS],
+    u: Event,
+    w: Event,
+    v: Event,
     n: usize,
 ) -> u32
-    requires { ⌜ Flowing n (now pred) (rows (now amount) (now fed) (now free) (now share)) ⌝ }
-    requires { ⌜ (u < n) × (w < n) × (v < n) ⌝ }
-    requires { ⌜ T (marked (now pred) w u) × T (marked (now fed) v w) ⌝ }
-    ensures { λ r. ⌜ Exchanged n (now (pred .entry)) (rows (now (amount .entry)) (now (fed .entry)) (now (free .entry)) (now (share .entry))) (rows (now (amount .exit)) (now (fed .exit)) (now (free .exit)) (now (share .exit))) u w v r ⌝ }
+    requires { ⌜ Holds n pred amount fed free share ⌝ }
+    requires { ⌜ (u .0 < n) × (w .0 < n) × (v .0 < n) ⌝ }
+    requires { ⌜ T (marked (now pred) (w .0) (u .0)) × T (marked (now fed) (v .0) (w .0)) ⌝ }
+    ensures { λ r. ⌜ Exchanged n (was pred) (rowsWere amount fed free share) (rowsAre amount fed free share) (u .0) (w .0) (v .0) r ⌝ }
 {
-    let k = least(free[u], amount[v * 256 + w]);
+    let feeder = u.0;
+    let at = v.0 * EVENTS + w.0;
+    let k = least(free[feeder], amount[at]);
     if k == 0 {
         return 0;
     }
@@ -41,88 +46,104 @@ pub fn exchange(
     k
 }
 
-// What a step of a walk comes to.
-pub enum Step {
-    Drew,
-    Stuck,
-    On(usize),
-}
-
 // The place in the queue by way of which the giver u was met, if an event stands there that u is before.
-fn taker_place(pred: &[u32], queue: &[usize], via: &[usize], u: usize, n: usize) -> Found
-    requires { ⌜ HasRows (now pred) 256 ⌝ }
-    requires { ⌜ (256 ≤ length (now queue)) × (256 ≤ length (now via)) ⌝ }
-    requires { ⌜ (u < n) × (n ≤ 256) ⌝ }
-    ensures { λ r. ⌜ Tells (TakerPlace n (now (pred .entry)) (now (queue .entry)) (now (via .entry)) u) r ⌝ }
+fn taker_place(
+    pred: &[u32; ROWS],
+    queue: &[usize; EVENTS],
+    via: &[usize; EVENTS],
+    u: Event,
+    n: usize,
+) -> Found
+    requires { ⌜ (u .0 < n) × (n ≤ mostEvents) ⌝ }
+    ensures { λ r. ⌜ Tells (TakerPlace n (was pred) (was queue) (was via) (u .0)) r ⌝ }
 {
-    let at = via[u];
-    if at >= 256 {
+    let giver = u.0;
+    let at = via[giver];
+    if at >= EVENTS {
         return Found::Nothing;
     }
-    let w = queue[at];
-    if w >= n {
+    let w = Event(queue[at]);
+    if w.0 >= n {
         return Found::Nothing;
     }
-    if !marks::is_marked(pred, w, u) {
+    if !marks::is_marked(pred, w.0, u.0) {
         return Found::Nothing;
     }
     Found::At(at)
 }
 
+// The giver at which a walk goes on, if there is one.
+pub enum Giver {
+    At(Event),
+    Nothing,
+}
+
 // The origin of the place `at`, if it feeds the taker w there and was met by way of an earlier place.
-fn next_giver(origin: &[usize], via: &[usize], fed: &[u32], at: usize, w: usize, n: usize) -> Found
-    requires { ⌜ (256 ≤ length (now origin)) × (256 ≤ length (now via)) ⌝ }
-    requires { ⌜ HasRows (now fed) 256 ⌝ }
-    requires { ⌜ (at < 256) × (w < n) × (n ≤ 256) ⌝ }
-    ensures { λ r. ⌜ Tells (NextGiver n (now (origin .entry)) (now (via .entry)) (now (fed .entry)) at w) r ⌝ }
+fn next_giver(
+    origin: &[usize; EVENTS],
+    via: &[usize; EVENTS],
+    fed: &[u32; ROWS],
+    at: usize,
+    w: Event,
+    n: usize,
+) -> Giver
+    requires { ⌜ (at < mostEvents) × (w .0 < n) × (n ≤ mostEvents) ⌝ }
+    ensures { λ r. ⌜ TellsGiver (NextGiver n (was origin) (was via) (was fed) at (w .0)) r ⌝ }
 {
     let v = origin[at];
     if v >= n {
-        return Found::Nothing;
+        return Giver::Nothing;
     }
     if via[v] >= at {
-        return Found::Nothing;
+        return Giver::Nothing;
     }
-    if !marks::is_marked(fed, v, w) {
-        return Found::Nothing;
+    if !marks::is_marked(fed, v, w.0) {
+        return Giver::Nothing;
     }
-    Found::At(v)
+    Giver::At(Event(v))
+}
+
+// What a step of a walk comes to.
+pub enum Step {
+    Drew,
+    Stuck,
+    On(Event),
 }
 
 // One step of a walk from the giver u.
 fn walk_step(
-    pred: &[u32],
-    queue: &[usize],
-    origin: &[usize],
-    via: &[usize],
+    pred: &[u32; ROWS],
+    queue: &[usize; EVENTS],
+    origin: &[usize; EVENTS],
+    via: &[usize; EVENTS],
     amount: &mut [u32],
-    fed: &mut [u32],
-    free: &mut [u32],
-    share: &mut [u32],
-    u: usize,
+    fed: &mut [u32; ROWS],
+    free: &mut [u32; EVENTS],
+    share: &mut [u32; EVENTS],
+    u: Event,
     n: usize,
 ) -> Step
-    requires { ⌜ Flowing n (now pred) (rows (now amount) (now fed) (now free) (now share)) ⌝ }
-    requires { ⌜ HasRows (now pred) 256 ⌝ }
-    requires { ⌜ (256 ≤ length (now queue)) × (256 ≤ length (now origin)) × (256 ≤ length (now via)) ⌝ }
-    requires { ⌜ u < n ⌝ }
-    ensures { λ r. ⌜ Moved n (now (pred .entry)) (rows (now (amount .entry)) (now (fed .entry)) (now (free .entry)) (now (share .entry))) (rows (now (amount .exit)) (now (fed .exit)) (now (free .exit)) (now (share .exit))) ⌝ }
-    ensures { λ r. ⌜ Stepped n (now (pred .entry)) (trailRows (now (queue .entry)) (now (origin .entry)) (now (via .entry))) (rows (now (amount .entry)) (now (fed .entry)) (now (free .entry)) (now (share .entry))) (rows (now (amount .exit)) (now (fed .exit)) (now (free .exit)) (now (share .exit))) u r ⌝ }
+    requires { ⌜ Holds n pred amount fed free share ⌝ }
+    requires { ⌜ u .0 < n ⌝ }
+    ensures { λ _. ⌜ Moves n pred amount fed free share ⌝ }
+    ensures { λ r. ⌜ Stepped n (was pred) (trailWas queue origin via) (rowsWere amount fed free share) (rowsAre amount fed free share) (u .0) r ⌝ }
 {
-    if free[u] == 0 {
+    let giver = u.0;
+    if free[giver] == 0 {
         return Step::Stuck;
     }
     let place = taker_place(pred, queue, via, u, n);
     let Found::At(at) = place else {
         return Step::Stuck;
     };
-    let w = queue[at];
-    if share[w] > 0 {
+    let taker = queue[at];
+    let w = Event(taker);
+    if share[taker] > 0 {
         draw_most(pred, amount, fed, free, share, u, w, n);
         return Step::Drew;
     }
     let next = next_giver(origin, via, fed, at, w, n);
-    let Found::At(v) = next else {
+    let Giver::At(v) = next else {
         return Step::Stuck;
     };
     exchange(pred, amount, fed, free, share, u, w, v, n);
@@ -131,23 +152,21 @@ fn walk_step(
 
 // Walks from the giver u along the trail until a taker that lacks tokens draws some. Returns whether one did.
 pub fn walk(
-    pred: &[u32],
-    queue: &[usize],
-    origin: &[usize],
-    via: &[usize],
+    pred: &[u32; ROWS],
+    queue: &[usize; EVENTS],
+    origin: &[usize; EVENTS],
+    via: &[usize; EVENTS],
     amount: &mut [u32],
-    fed: &mut [u32],
-    free: &mut [u32],
-    share: &mut [u32],
-    u: usize,
+    fed: &mut [u32; ROWS],
+    free: &mut [u32; EVENTS],
+    share: &mut [u32; EVENTS],
+    u: Event,
     n: usize,
 ) -> bool
-    requires { ⌜ Flowing n (now pred) (rows (now amount) (now fed) (now free) (now share)) ⌝ }
-    requires { ⌜ HasRows (now pred) 256 ⌝ }
-    requires { ⌜ (256 ≤ length (now queue)) × (256 ≤ length (now origin)) × (256 ≤ length (now via)) ⌝ }
-    requires { ⌜ u < n ⌝ }
-    ensures { λ r. ⌜ Moved n (now (pred .entry)) (rows (now (amount .entry)) (now (fed .entry)) (now (free .entry)) (now (share .entry))) (rows (now (amount .exit)) (now (fed .exit)) (now (free .exit)) (now (share .exit))) ⌝ }
-    ensures { λ r. ⌜ Walked n (now (pred .entry)) (trailRows (now (queue .entry)) (now (origin .entry)) (now (via .entry))) (rows (now (amount .entry)) (now (fed .entry)) (now (free .entry)) (now (share .entry))) (rows (now (amount .exit)) (now (fed .exit)) (now (free .exit)) (now (share .exit))) u r ⌝ }
+    requires { ⌜ Holds n pred amount fed free share ⌝ }
+    requires { ⌜ u .0 < n ⌝ }
+    ensures { λ _. ⌜ Moves n pred amount fed free share ⌝ }
+    ensures { λ r. ⌜ Walked n (was pred) (trailWas queue origin via) (rowsWere amount fed free share) (rowsAre amount fed free share) (u .0) r ⌝ }
 {
     let mut giver = u;
     loop {

@@ -1,7 +1,8 @@
--- The tests of the contents table, entry by entry: a wrong entry passes the test, and with three right ones the last decides.
+-- The tests of the table of contents, entry by entry: a wrong entry passes the test, and with three right ones the last decides.
 use Prim.Native.Nat.{ℕ, _+_, _*_, _<_, _≤_}
 use native.Mathlib.Omega.{arith}
-use mathlib.Core.Bool.{true, not}
+use native.Mathlib.Nat.{mul-le-mul}
+use mathlib.Core.Bool.{true, false, not}
 use mathlib.Core.List.{List}
 use mathlib.Core.Path.{_≡_, refl, sym, ap, _∙_}
 use borrow.Author.Tests.{lt-ltb, le-ltb, ne-eqb, eq-eqb}
@@ -9,10 +10,13 @@ use lib.Dec.{ltb, eqb}
 use lib.ListN.{length}
 use Rattle.finite.specs.Bounded.{any}
 use Rattle.finite.specs.Search.{search-found}
+use Rattle.ids.specs.Limits.{mostPlaces, mostTransitions, mostEvents, mostPairs}
 use Rattle.numbers.specs.Number.{number}
-use Rattle.sheet.specs.Table.{start, count, limit, itemLength, item, bodyEnd, due}
-use Rattle.sheet.specs.Faults.{tooShort, overLimitAt, overLimit, misplacedAt, misplaced, wrongEnd}
-use Rattle.sheet.specs.Laid.{Limited, weights-most}
+use Rattle.sheet.specs.Table.{tableLength, start, count, limit, itemLength, item, bodyEnd, due}
+use Rattle.sheet.specs.Faults.{tooShort, overLimitAt, overLimit, misplacedAt, misplaced, wrongEnd, layoutFaults, firstFault}
+use Rattle.sheet.specs.Laid.{Limited, longestSheet, starts, weights-most}
+use Rattle.layout.specs.Layout.{placesAt, transitionsAt, eventsAt, pairsAt, LayoutOf, Within}
+use Rattle.layout.specs.declared.Layout.{Layout}
 
 -- the numbers of an entry, where the code reads them
 pub start-is : (s : List ℕ) (e : ℕ) → number 4 s (8 * e) ≡ start s e
@@ -23,57 +27,113 @@ pub count-is : (s : List ℕ) (e : ℕ) → number 4 s (8 * e + 4) ≡ count s e
 unfolding count
 count-is s e = refl
 
-pub short-is : (s : List ℕ) → ltb (length s) 32 ≡ tooShort s
+pub short-is : (s : List ℕ) → ltb (length s) tableLength ≡ tooShort s
 unfolding tooShort
 short-is s = refl
 
--- 2
-pub over : (s : List ℕ) (e x : ℕ) → e < 4 → x ≡ count s e → limit e < x → true ≡ overLimit s
-unfolding overLimit overLimitAt
-over s e x l read more =
-    search-found 4 4 (overLimitAt s) e refl l (lt-ltb (limit e) (count s e) (omega arith))
+-- how far all items of the transitions reach
+pub weights-fit : (l : Layout) → Within l → 4 * l .places * l .transitions ≤ 4 * mostPlaces * mostTransitions
+weights-fit l within = mul-le-mul {n₁ = 4 * l .places} {n₂ = 4 * mostPlaces} (omega arith) (within .transitions)
 
-pub over-last : (s : List ℕ) (a b c d : ℕ) → a ≡ count s 0 → b ≡ count s 1 → c ≡ count s 2 → d ≡ count s 3 → a ≤ 64 → b ≤ 64 → c ≤ 256 → ltb 1024 d ≡ overLimit s
-unfolding overLimit overLimitAt any limit
-over-last s a b c d a-read b-read c-read d-read l m n =
-    simp (← a-read, ← b-read, ← c-read, ← d-read, le-ltb 64 a l, le-ltb 64 b m, le-ltb 256 c n)
+pub events-near : (l : Layout) → Within l → placesAt l ≡ tableLength → transitionsAt l ≡ placesAt l + 4 * l .places
+    → eventsAt l ≡ transitionsAt l + 4 * l .places * l .transitions → eventsAt l ≤ longestSheet
+events-near l within a b c = omega (arith, weights-fit l within)
 
--- 3
-pub wrong : (s : List ℕ) (e x y : ℕ) → e < 4 → x ≡ start s e → y ≡ due s e → ¬ (x ≡ y) → true ≡ misplaced s
-unfolding misplaced misplacedAt
-wrong s e x y l x-read y-read apart =
-    search-found 4 4 (misplacedAt s) e refl l (ap not (ne-eqb (start s e) (due s e) (λ q. apart (x-read ∙ q ∙ sym y-read))))
+module _ (s : List ℕ) (l : Layout) (is : LayoutOf s l) where
+  -- 2
+  over : (e : ℕ) → e < 4 → limit e < count s e → true ≡ overLimit s
+  unfolding overLimit overLimitAt
+  over e h more = search-found 4 4 (overLimitAt s) e refl h (lt-ltb (limit e) (count s e) more)
 
-pub right : (s : List ℕ) (e x y : ℕ) → x ≡ start s e → y ≡ due s e → x ≡ y → start s e ≡ due s e
-right s e x y x-read y-read same = sym x-read ∙ same ∙ y-read
+  pub over-places : mostPlaces < l .places → true ≡ overLimit s
+  unfolding limit
+  over-places h = over 0 (omega arith) (omega arith)
 
-pub wrong-last : (s : List ℕ) (x y : ℕ) → x ≡ start s 3 → y ≡ due s 3 → start s 0 ≡ due s 0 → start s 1 ≡ due s 1 → start s 2 ≡ due s 2 → not (eqb x y) ≡ misplaced s
-unfolding misplaced misplacedAt any
-wrong-last s x y x-read y-read p q r =
-    simp (x-read, y-read, eq-eqb (start s 0) (due s 0) p, eq-eqb (start s 1) (due s 1) q, eq-eqb (start s 2) (due s 2) r)
+  pub over-transitions : mostTransitions < l .transitions → true ≡ overLimit s
+  unfolding limit
+  over-transitions h = over 1 (omega arith) (omega arith)
 
--- where each body is due, in the numbers that were read
-pub due-first : (s : List ℕ) → 32 ≡ due s 0
-unfolding due
-due-first s = refl
+  pub over-events : mostEvents < l .events → true ≡ overLimit s
+  unfolding limit
+  over-events h = over 2 (omega arith) (omega arith)
 
-pub due-transitions : (s : List ℕ) (at places : ℕ) → at ≡ start s 0 → places ≡ count s 0 → at + 4 * places ≡ due s 1
+  pub over-last : l .places ≤ mostPlaces → l .transitions ≤ mostTransitions → l .events ≤ mostEvents → ltb mostPairs (l .pairs) ≡ overLimit s
+  unfolding overLimit overLimitAt any limit
+  over-last h i j =
+      simp (is .pairs, le-ltb 64 (count s 0) (omega arith), le-ltb 64 (count s 1) (omega arith), le-ltb 256 (count s 2) (omega arith))
+
+  -- 3: where each body is due, by the layout
+  due-first : tableLength ≡ due s 0
+  unfolding due
+  due-first = refl
+
+  due-transitions : placesAt l + 4 * l .places ≡ due s 1
+  unfolding due bodyEnd item itemLength
+  due-transitions = omega arith
+
+  due-events : transitionsAt l + 4 * l .places * l .transitions ≡ due s 2
+  unfolding due bodyEnd item itemLength
+  due-events = simp (is .transitions-at, is .places, is .transitions)
+
+  due-pairs : eventsAt l + 2 * l .events ≡ due s 3
+  unfolding due bodyEnd item itemLength
+  due-pairs = omega arith
+
+  wrong : (e : ℕ) → e < 4 → ¬ (start s e ≡ due s e) → true ≡ misplaced s
+  unfolding misplaced misplacedAt
+  wrong e h apart = search-found 4 4 (misplacedAt s) e refl h (ap not (ne-eqb (start s e) (due s e) apart))
+
+  pub wrong-places : ¬ (placesAt l ≡ tableLength) → true ≡ misplaced s
+  wrong-places h = wrong 0 (omega arith) (λ e. h (is .places-at ∙ e ∙ sym due-first))
+
+  pub wrong-transitions : ¬ (transitionsAt l ≡ placesAt l + 4 * l .places) → true ≡ misplaced s
+  wrong-transitions h = wrong 1 (omega arith) (λ e. h (is .transitions-at ∙ e ∙ sym due-transitions))
+
+  pub wrong-events : ¬ (eventsAt l ≡ transitionsAt l + 4 * l .places * l .transitions) → true ≡ misplaced s
+  wrong-events h = wrong 2 (omega arith) (λ e. h (is .events-at ∙ e ∙ sym due-events))
+
+  pub wrong-last : placesAt l ≡ tableLength → transitionsAt l ≡ placesAt l + 4 * l .places
+      → eventsAt l ≡ transitionsAt l + 4 * l .places * l .transitions → not (eqb (pairsAt l) (eventsAt l + 2 * l .events)) ≡ misplaced s
+  unfolding misplaced misplacedAt any
+  wrong-last a b c =
+      simp (
+        is .pairs-at,
+        due-pairs,
+        eq-eqb (start s 0) (due s 0) (sym (is .places-at) ∙ a ∙ due-first),
+        eq-eqb (start s 1) (due s 1) (sym (is .transitions-at) ∙ b ∙ due-transitions),
+        eq-eqb (start s 2) (due s 2) (sym (is .events-at) ∙ c ∙ due-events),
+      )
+
+  -- 4
+  pub end-is : not (eqb (length s) (pairsAt l + 4 * l .pairs)) ≡ wrongEnd s
+  unfolding wrongEnd bodyEnd item itemLength
+  end-is = simp (is .pairs-at, is .pairs)
+
+-- where faults 2 and 3 are absent the end of the last body can be added up
+pub pairs-near : (s : List ℕ) (l : Layout) → LayoutOf s l → Limited s → misplaced s ≡ false → pairsAt l ≤ longestSheet
 unfolding due bodyEnd item itemLength
-due-transitions s at places a b = omega arith
+pairs-near s l is known none =
+    let at = starts s none in
+    omega (arith, weights-most s known, at 0 (omega arith), at 1 (omega arith), at 2 (omega arith), at 3 (omega arith))
 
-pub due-events : (s : List ℕ) (at places transitions : ℕ) → at ≡ start s 1 → places ≡ count s 0 → transitions ≡ count s 1 → at + 4 * places * transitions ≡ due s 2
-unfolding due bodyEnd item itemLength
-due-events s at places transitions a b c = simp (a, b, c)
+-- the fault that is told, by what each test said
+module _ (s : List ℕ) where
+  pub fault-1 : tooShort s ≡ true → 1 ≡ firstFault layoutFaults s
+  unfolding layoutFaults firstFault
+  fault-1 a = simp a
 
-pub due-pairs : (s : List ℕ) (at events : ℕ) → at ≡ start s 2 → events ≡ count s 2 → at + 2 * events ≡ due s 3
-unfolding due bodyEnd item itemLength
-due-pairs s at events a b = omega arith
+  pub fault-2 : tooShort s ≡ false → overLimit s ≡ true → 2 ≡ firstFault layoutFaults s
+  unfolding layoutFaults firstFault
+  fault-2 a b = simp (a, b)
 
--- 4
-pub end-is : (s : List ℕ) (at pairs : ℕ) → at ≡ start s 3 → pairs ≡ count s 3 → not (eqb (length s) (at + 4 * pairs)) ≡ wrongEnd s
-unfolding wrongEnd bodyEnd item itemLength
-end-is s at pairs a b = simp (a, b)
+  pub fault-3 : tooShort s ≡ false → overLimit s ≡ false → misplaced s ≡ true → 3 ≡ firstFault layoutFaults s
+  unfolding layoutFaults firstFault
+  fault-3 a b c = simp (a, b, c)
 
--- what the counts come to
-pub weights-fit : (s : List ℕ) (places transitions : ℕ) → Limited s → places ≡ count s 0 → transitions ≡ count s 1 → 4 * places * transitions ≤ 16384
-weights-fit s places transitions known a b = rw (a, b) (weights-most s known)
+  pub fault-4 : tooShort s ≡ false → overLimit s ≡ false → misplaced s ≡ false → wrongEnd s ≡ true → 4 ≡ firstFault layoutFaults s
+  unfolding layoutFaults firstFault
+  fault-4 a b c d = simp (a, b, c, d)
+
+  pub no-fault : tooShort s ≡ false → overLimit s ≡ false → misplaced s ≡ false → wrongEnd s ≡ false → 0 ≡ firstFault layoutFaults s
+  unfolding layoutFaults firstFault
+  no-fault a b c d = simp (a, b, c, d)

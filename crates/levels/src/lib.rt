@@ -1,34 +1,53 @@
 // Levels of a search, and rows of marks by level: in `sets`, row L marks givers of level L with tokens free, and row 256 + L givers met at
 // level L and not yet visited. All of it only says where to look, so contracts speak of bounds alone.
+use ids::EVENTS;
+use ids::Event;
+use ids::ROWS;
+use ids::WORDS;
 ghost use Prim.Native.Nat.{_<_, _≤_};
-ghost use lib.ListN.{length};
-ghost use Rattle.marks.specs.Marks.{HasRow, HasRows};
+ghost use Rattle.ids.specs.Limits.{mostEvents};
+
+// The words of two rows of marks for each level.
+pub const SETS: usize = 2 * ROWS;
+
+// The last level that has rows.
+const LAST: usize = EVENTS - 1;
 
 // The level of the taker at a place of the queue: 0 if its origin is no event, as where a search starts, else one more than that of the
 // place by way of which its origin was met.
-fn level_of(origin: &[usize], via: &[usize], levels: &[usize; 256], at: usize) -> usize
-    requires { ⌜ (256 ≤ length (now origin)) × (256 ≤ length (now via)) × (at < 256) ⌝ }
-    ensures { λ r. ⌜ r < 256 ⌝ }
+fn level_of(
+    origin: &[usize; EVENTS],
+    via: &[usize; EVENTS],
+    levels: &[usize; EVENTS],
+    at: usize,
+) -> usize
+    requires { ⌜ at < mostEvents ⌝ }
+    ensures { λ r. ⌜ r < mostEvents ⌝ }
 {
     let u = origin[at];
-    if u >= 256 {
+    if u >= EVENTS {
         return 0;
     }
     let from = via[u];
-    if from >= 256 {
+    if from >= EVENTS {
         return 0;
     }
     let level = levels[from];
-    if level >= 255 {
-        return 255;
+    if level >= LAST {
+        return LAST;
     }
     level + 1
 }
 
 // The level of each place of the queue. Returns that of the last, which is the deepest, since a search goes from level to level.
-pub fn set_levels(origin: &[usize], via: &[usize], levels: &mut [usize; 256], tail: usize) -> usize
-    requires { ⌜ (256 ≤ length (now origin)) × (256 ≤ length (now via)) × (tail ≤ 256) ⌝ }
-    ensures { λ r. ⌜ r < 256 ⌝ }
+pub fn set_levels(
+    origin: &[usize; EVENTS],
+    via: &[usize; EVENTS],
+    levels: &mut [usize; EVENTS],
+    tail: usize,
+) -> usize
+    requires { ⌜ tail ≤ mostEvents ⌝ }
+    ensures { λ r. ⌜ r < mostEvents ⌝ }
 {
     let mut level: usize = 0;
     for at in 0..tail {
@@ -39,66 +58,78 @@ pub fn set_levels(origin: &[usize], via: &[usize], levels: &mut [usize; 256], ta
 }
 
 // Marks the giver u in its level's row if it has tokens free.
-pub fn mark_spare(free: &[u32], sets: &mut [u32], level: usize, u: usize)
-    requires { ⌜ HasRow (now sets) level × (u < 256) × (u < length (now free)) ⌝ }
+pub fn mark_spare(free: &[u32; EVENTS], sets: &mut [u32; SETS], level: usize, u: Event)
+    requires { ⌜ (level < mostEvents) × (u .0 < mostEvents) ⌝ }
 {
-    if free[u] > 0 {
-        marks::mark(sets, level, u);
+    let i = u.0;
+    if free[i] > 0 {
+        marks::mark(sets, level, i);
     }
 }
 
 // Removes the mark of the giver u from its level's row if it has no tokens free.
-pub fn unmark_spent(free: &[u32], sets: &mut [u32], level: usize, u: usize)
-    requires { ⌜ HasRow (now sets) level × (u < 256) × (u < length (now free)) ⌝ }
+pub fn unmark_spent(free: &[u32; EVENTS], sets: &mut [u32; SETS], level: usize, u: Event)
+    requires { ⌜ (level < mostEvents) × (u .0 < mostEvents) ⌝ }
 {
-    if free[u] == 0 {
-        marks::unmark(sets, level, u);
+    let i = u.0;
+    if free[i] == 0 {
+        marks::unmark(sets, level, i);
     }
 }
 
 // Marks the giver u, if it was met by way of a place of the queue, in both rows of its level.
-fn mark_giver(via: &[usize], levels: &[usize; 256], free: &[u32], sets: &mut [u32], u: usize)
-    requires { ⌜ (256 ≤ length (now via)) × (256 ≤ length (now free)) × HasRows (now sets) 512 ⌝ }
-    requires { ⌜ u < 256 ⌝ }
+fn mark_giver(
+    via: &[usize; EVENTS],
+    levels: &[usize; EVENTS],
+    free: &[u32; EVENTS],
+    sets: &mut [u32; SETS],
+    u: Event,
+)
+    requires { ⌜ u .0 < mostEvents ⌝ }
 {
-    let at = via[u];
-    if at >= 256 {
+    let i = u.0;
+    let at = via[i];
+    if at >= EVENTS {
         return;
     }
     let level = levels[at];
-    if level >= 256 {
+    if level >= EVENTS {
         return;
     }
-    marks::mark(sets, 256 + level, u);
+    marks::mark(sets, EVENTS + level, i);
     mark_spare(free, sets, level, u);
 }
 
 // Marks the givers that were met, by levels.
-pub fn mark_givers(via: &[usize], levels: &[usize; 256], free: &[u32], sets: &mut [u32], n: usize)
-    requires { ⌜ (256 ≤ length (now via)) × (256 ≤ length (now free)) × HasRows (now sets) 512 ⌝ }
-    requires { ⌜ n ≤ 256 ⌝ }
+pub fn mark_givers(
+    via: &[usize; EVENTS],
+    levels: &[usize; EVENTS],
+    free: &[u32; EVENTS],
+    sets: &mut [u32; SETS],
+    n: usize,
+)
+    requires { ⌜ n ≤ mostEvents ⌝ }
 {
     for u in 0..n {
-        mark_giver(via, levels, free, sets, u);
+        mark_giver(via, levels, free, sets, Event(u));
     }
 }
 
 // Marks the taker at a place of the queue if a giver of a level with tokens free is before it.
 fn mark_taker(
-    pred: &[u32],
-    queue: &[usize],
-    sets: &[u32],
-    within: &mut [u32],
+    pred: &[u32; ROWS],
+    queue: &[usize; EVENTS],
+    sets: &[u32; SETS],
+    within: &mut [u32; WORDS],
     level: usize,
     at: usize,
 )
-    requires { ⌜ HasRows (now pred) 256 × HasRow (now sets) level × HasRow (now within) 0 ⌝ }
-    requires { ⌜ at < length (now queue) ⌝ }
+    requires { ⌜ (level < mostEvents) × (at < mostEvents) ⌝ }
 {
-    let w = queue[at];
-    if w < 256 {
-        if marks::meets(pred, w, sets, level) {
-            marks::mark(within, 0, w);
+    let w = Event(queue[at]);
+    if w.0 < EVENTS {
+        if marks::meets(pred, w.0, sets, level) {
+            marks::mark(within, 0, w.0);
         }
     }
 }
@@ -106,17 +137,16 @@ fn mark_taker(
 // Marks the takers of a level before which is a giver of it with tokens free, back from a place of the queue. Returns the first place of
 // the level.
 pub fn mark_takers(
-    pred: &[u32],
-    queue: &[usize],
-    levels: &[usize; 256],
-    sets: &[u32],
-    within: &mut [u32],
+    pred: &[u32; ROWS],
+    queue: &[usize; EVENTS],
+    levels: &[usize; EVENTS],
+    sets: &[u32; SETS],
+    within: &mut [u32; WORDS],
     level: usize,
     end: usize,
 ) -> usize
-    requires { ⌜ HasRows (now pred) 256 × HasRow (now sets) level × HasRow (now within) 0 ⌝ }
-    requires { ⌜ (256 ≤ length (now queue)) × (end ≤ 256) ⌝ }
-    ensures { λ r. ⌜ r ≤ 256 ⌝ }
+    requires { ⌜ (level < mostEvents) × (end ≤ mostEvents) ⌝ }
+    ensures { λ r. ⌜ r ≤ mostEvents ⌝ }
 {
     let mut at = end;
     while at > 0 {

@@ -7,7 +7,7 @@ use lib.IntN.{ℤ}
 use Rattle.finite.specs.Bounded.{any}
 use Rattle.finite.specs.Subset.{Set}
 use Rattle.plan.specs.Net.{Net, Plan}
-use Rattle.plan.specs.Order.{free}
+use Rattle.plan.specs.Order.{freeCount}
 use Rattle.plan.specs.Prefix.{missing, smallest, endCount}
 use Rattle.sheet.specs.Faults.{faultOf}
 use Rattle.sheet.specs.Items.{netOf, planOf}
@@ -64,7 +64,7 @@ lineOf N P p = placeLine p (N .opening p) (endCount N P p) (missing N P p)
 -- the lines of a net and a plan
 unfoldable pub linesOf : Net → Plan → List ℕ
 linesOf N P =
-    planLine (P .events) (P .pairs) (free P)
+    planLine (P .events) (P .pairs) (freeCount P)
     ++ each (N .places) (lineOf N P)
     ++ totalsLine (shortPlaces (missing N P) (N .places)) (totalMissing (missing N P) (N .places))
     ++ verdictLine N P (verdictOf (missing N P) (N .places))

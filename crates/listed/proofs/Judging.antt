@@ -4,7 +4,7 @@ use native.Mathlib.Omega.{arith}
 use mathlib.Core.List.{List, _++_}
 use mathlib.Core.Path.{_≡_, refl, sym, ap, _∙_}
 use lib.ListN.{length}
-use Rattle.plan.specs.Order.{free}
+use Rattle.plan.specs.Order.{freeCount}
 use Rattle.plan.specs.Prefix.{missing}
 use Rattle.sheet.specs.Table.{placesOf, eventsOf, pairsOf}
 use Rattle.sheet.specs.Items.{netOf, planOf}
@@ -25,14 +25,14 @@ use Rattle.lines.specs.Listing.{planLine, totalsLine, each, verdictLine, lineOf
 use Rattle.lines.specs.Counted.{Counted}
 
 -- the free count of a sheet without fault, by its counts
-pub free-of : (s : List ℕ) → Faultless s → 2 * (free (planOf s) + pairsOf s) + eventsOf s ≡ eventsOf s * eventsOf s
+pub free-of : (s : List ℕ) → Faultless s → 2 * (freeCount (planOf s) + pairsOf s) + eventsOf s ≡ eventsOf s * eventsOf s
 free-of s known = free-pairs (planOf s) (sound s known) (known .once)
 
-pub free-told : (s : List ℕ) → Faultless s → (events pairs r : ℕ) → events ≡ eventsOf s → pairs ≡ pairsOf s → 2 * (r + pairs) + events ≡ events * events → r ≡ free (planOf s)
+pub free-told : (s : List ℕ) → Faultless s → (events pairs r : ℕ) → events ≡ eventsOf s → pairs ≡ pairsOf s → 2 * (r + pairs) + events ≡ events * events → r ≡ freeCount (planOf s)
 free-told s known events pairs r e i h = omega (arith, free-of s known, ap (λ (n : ℕ). n * n) e)
 
 -- the lines from what is counted
-pub lines-are : (s : List ℕ) (events pairs r short total : ℕ) (v : Verdict) → events ≡ eventsOf s → pairs ≡ pairsOf s → r ≡ free (planOf s) → short ≡ shortPlaces (missing (netOf s) (planOf s)) (placesOf s) → total ≡ totalMissing (missing (netOf s) (planOf s)) (placesOf s) → v ≡ verdictOf (missing (netOf s) (planOf s)) (placesOf s) → linesOf (netOf s) (planOf s) ≡ planLine events pairs r ++ each (placesOf s) (lineOf (netOf s) (planOf s)) ++ totalsLine short total ++ verdictLine (netOf s) (planOf s) v
+pub lines-are : (s : List ℕ) (events pairs r short total : ℕ) (v : Verdict) → events ≡ eventsOf s → pairs ≡ pairsOf s → r ≡ freeCount (planOf s) → short ≡ shortPlaces (missing (netOf s) (planOf s)) (placesOf s) → total ≡ totalMissing (missing (netOf s) (planOf s)) (placesOf s) → v ≡ verdictOf (missing (netOf s) (planOf s)) (placesOf s) → linesOf (netOf s) (planOf s) ≡ planLine events pairs r ++ each (placesOf s) (lineOf (netOf s) (planOf s)) ++ totalsLine short total ++ verdictLine (netOf s) (planOf s) v
 unfolding linesOf
 lines-are s events pairs r short total v e i f h t w = rw (e, i, f, h, t, w)
 

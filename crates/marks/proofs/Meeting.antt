@@ -6,7 +6,7 @@ use mathlib.Core.Bool.{Bool, not, _&&_, _||_}
 use mathlib.Core.List.{List}
 use mathlib.Core.Path.{_≡_, sym, ap, ap₂, subst, _∙_}
 use lib.Bits.{bitAnd, bitOr, and-lt, or-lt}
-use lib.Dec.{T, eqb, eqb→eq, lit<, not-T}
+use lib.Dec.{T, eqb, eqb→eq, not-T}
 use lib.ListN.{getD}
 use mir.Facts.{eqb-no}
 use Rattle.finite.specs.Bounded.{any, any-yes, yes-any, same}
@@ -23,18 +23,18 @@ pub record Gathered (a : List ℕ) (i : ℕ) (b : List ℕ) (j both k : ℕ) : T
   pub fits : both < 2 ^ 32
   pub bits : (t : ℕ) → bit both t ≡ any k (inBoth a i b j t)
 
-pub start : (a : List ℕ) (i : ℕ) (b : List ℕ) (j : ℕ) → Gathered a i b j 0 0
+pub start : (a : List ℕ) (i : ℕ) (b : List ℕ) (j both k : ℕ) → both ≡ 0 → k ≡ 0 → Gathered a i b j both k
 unfolding any
-start a i b j = record { fits = lit< tt; bits = bit-none }
+start a i b j both k empty none = record { fits = omega arith; bits = λ t. rw (empty, none) (bit-none t) }
 
-pub more : (a : List ℕ) (i : ℕ) (b : List ℕ) (j both k : ℕ) → getD a (i * 8 + k) 0 < 2 ^ 32 → getD b (j * 8 + k) 0 < 2 ^ 32
+pub more : (a : List ℕ) (i : ℕ) (b : List ℕ) (j both k : ℕ) → ((q : ℕ) → getD a q 0 < 2 ^ 32) → ((q : ℕ) → getD b q 0 < 2 ^ 32)
     → Gathered a i b j both k → Gathered a i b j (bitOr both (bitAnd (getD a (i * 8 + k) 0) (getD b (j * 8 + k) 0))) (k + 1)
 unfolding any inBoth
 more a i b j both k ha hb g =
     let x = getD a (i * 8 + k) 0 in
     let y = getD b (j * 8 + k) 0 in
     record {
-      fits = or-lt 32 both (bitAnd x y) (g .fits) (and-lt 32 x y ha hb);
+      fits = or-lt 32 both (bitAnd x y) (g .fits) (and-lt 32 x y (ha _) (hb _));
       bits = λ t. bit-or both (bitAnd x y) t ∙ ap₂ _||_ (g .bits t) (bit-and x y t) ∙ ap (λ (n : ℕ). any n (inBoth a i b j t)) (sym (add-one k));
     }
 

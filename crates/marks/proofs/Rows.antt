@@ -125,12 +125,9 @@ pub record Joining (old new : List ℕ) (from into k : ℕ) : Type 0 where
   pub size : length new ≡ length old
   pub marks : (u v : ℕ) → v < 256 → marked new u v ≡ (marked old u v || (eqb u into && (ltb (v / 32) k && marked old from v)))
 
-pub start : (rows : List ℕ) (from into : ℕ) → Joining rows rows from into 0
-start rows from into =
-    record {
-      size = refl;
-      marks = λ u v h. rw (le-ltb (v / 32) 0 (omega arith)) (simp (and-false, or-false));
-    }
+pub start : (rows : List ℕ) (from into k : ℕ) → k ≡ 0 → Joining rows rows from into k
+start rows from into k none =
+    record { size = refl; marks = λ u v h. rw (le-ltb (v / 32) k (omega arith)) (simp (and-false, or-false)) }
 
 -- One word more, as a test: q says that it is the mark's word, l and m that the mark's word is among the first k, or k + 1.
 one-more : (a e l f q x m : Bool) → (T q → T e) → (T q → T m) → (T q → x ≡ f) → (T (not q) → T e → l ≡ m)

@@ -16,12 +16,12 @@ use Rattle.marks.proofs.Bits.{bit-and, bit-and-not}
 use Rattle.marks.proofs.Rows.{word-mark}
 
 -- the bits of x show which numbers from k * 32 on have the property P
-pub record Shows (P : ℕ → Type 0) (k x : ℕ) : Type 0 where
+record Shows (P : ℕ → Type 0) (k x : ℕ) : Type 0 where
   pub has : (t : ℕ) → t < 32 → T (bit x t) → P (k * 32 + t)
   pub shown : (t : ℕ) → t < 32 → P (k * 32 + t) → T (bit x t)
 
 module _ (a : List ℕ) (i : ℕ) (b : List ℕ) (j k : ℕ) (h : k < 8) where
-  pub shows-both : Shows (Both a i b j) k (bitAnd (getD a (i * 8 + k) 0) (getD b (j * 8 + k) 0))
+  shows-both : Shows (Both a i b j) k (bitAnd (getD a (i * 8 + k) 0) (getD b (j * 8 + k) 0))
   shows-both =
       record {
         has = λ t l s.
@@ -33,7 +33,7 @@ module _ (a : List ℕ) (i : ℕ) (b : List ℕ) (j k : ℕ) (h : k < 8) where
       is : (t : ℕ) → t < 32 → bit (bitAnd (getD a (i * 8 + k) 0) (getD b (j * 8 + k) 0)) t ≡ (marked a i (k * 32 + t) && marked b j (k * 32 + t))
       is t l = bit-and (getD a (i * 8 + k) 0) (getD b (j * 8 + k) 0) t ∙ ap₂ _&&_ (word-mark a i k t l) (word-mark b j k t l)
 
-  pub shows-only : getD b (j * 8 + k) 0 < 2 ^ 32 → Shows (Only a i b j) k (bitAnd (getD a (i * 8 + k) 0) ((2 ^ 32 - 1) - getD b (j * 8 + k) 0))
+  shows-only : getD b (j * 8 + k) 0 < 2 ^ 32 → Shows (Only a i b j) k (bitAnd (getD a (i * 8 + k) 0) ((2 ^ 32 - 1) - getD b (j * 8 + k) 0))
   shows-only fits =
       record {
         has = λ t l s.
@@ -51,10 +51,10 @@ module _ (a : List ℕ) (i : ℕ) (b : List ℕ) (j k : ℕ) (h : k < 8) where
 pub record Passed (P : ℕ → Type 0) (k : ℕ) : Type 0 where
   pub none : (v : ℕ) → k * 32 ≤ v → P v → ⊥
 
-pub start : (P : ℕ → Type 0) → ((v : ℕ) → P v → v < 256) → Passed P 8
-start P below = record { none = λ v l p. omega (arith, below v p) }
+pub start : (P : ℕ → Type 0) (k : ℕ) → k ≡ 8 → ((v : ℕ) → P v → v < 256) → Passed P k
+start P k all below = record { none = λ v l p. omega (arith, below v p) }
 
-pub more : (P : ℕ → Type 0) (m k x : ℕ) → m ≡ k + 1 → Shows P k x → x ≡ 0 → Passed P m → Passed P k
+more : (P : ℕ → Type 0) (m k x : ℕ) → m ≡ k + 1 → Shows P k x → x ≡ 0 → Passed P m → Passed P k
 more P m k x e s z g =
     record {
       none = λ v l p.
@@ -73,5 +73,18 @@ more P m k x e s z g =
 pub done : (P : ℕ → Type 0) (k : ℕ) → k ≡ 0 → Passed P k → (v : ℕ) → P v → ⊥
 done P k e g v = g .none v (omega arith)
 
-pub found : (P : ℕ → Type 0) (k x r : ℕ) → Shows P k x → SetBit x r → P (k * 32 + r)
-found P k x r s t = s .has r (t .within) (t .set)
+-- Word k shows none of the numbers, or one: those in both rows, and those in the first only.
+module _ (a : List ℕ) (i : ℕ) (b : List ℕ) (j k : ℕ) (h : k < 8) where
+  pub more-both : (m : ℕ) → m ≡ k + 1 → bitAnd (getD a (i * 8 + k) 0) (getD b (j * 8 + k) 0) ≡ 0 → Passed (Both a i b j) m → Passed (Both a i b j) k
+  more-both m e = more (Both a i b j) m k _ e (shows-both a i b j k h)
+
+  pub found-both : (r : ℕ) → SetBit (bitAnd (getD a (i * 8 + k) 0) (getD b (j * 8 + k) 0)) r → Both a i b j (k * 32 + r)
+  found-both r t = shows-both a i b j k h .has r (t .within) (t .set)
+
+  module _ (fits : (q : ℕ) → getD b q 0 < 2 ^ 32) where
+    pub more-only : (m : ℕ) → m ≡ k + 1 → bitAnd (getD a (i * 8 + k) 0) ((2 ^ 32 - 1) - getD b (j * 8 + k) 0) ≡ 0 → Passed (Only a i b j) m
+        → Passed (Only a i b j) k
+    more-only m e = more (Only a i b j) m k _ e (shows-only a i b j k h (fits _))
+
+    pub found-only : (r : ℕ) → SetBit (bitAnd (getD a (i * 8 + k) 0) ((2 ^ 32 - 1) - getD b (j * 8 + k) 0)) r → Only a i b j (k * 32 + r)
+    found-only r t = shows-only a i b j k h (fits _) .has r (t .within) (t .set)

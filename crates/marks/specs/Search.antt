@@ -3,6 +3,7 @@ use Prim.Native.Nat.{ℕ, _<_}
 use mathlib.Core.List.{List}
 use mathlib.Core.Logic.{⊎-elim}
 use lib.Dec.{T, T-not}
+use Rattle.ids.specs.Limits.{mostEvents}
 use Rattle.finite.specs.Bounded.{decide}
 use Rattle.marks.specs.declared.Found.{Found}
 use Rattle.marks.specs.declared.Found.the-variants.{At, Nothing}
@@ -10,13 +11,13 @@ use Rattle.marks.specs.Marks.{marked}
 
 -- v is marked in row i of a and in row j of b.
 pub record Both (a : List ℕ) (i : ℕ) (b : List ℕ) (j v : ℕ) : Type 0 where
-  pub below : v < 256
+  pub below : v < mostEvents
   pub first : T (marked a i v)
   pub second : T (marked b j v)
 
 -- v is marked in row i of a and not in row j of b.
 pub record Only (a : List ℕ) (i : ℕ) (b : List ℕ) (j v : ℕ) : Type 0 where
-  pub below : v < 256
+  pub below : v < mostEvents
   pub first : T (marked a i v)
   pub second : T (marked b j v) → ⊥
 
@@ -27,7 +28,7 @@ Tells P Nothing = (v : ℕ) → P v → ⊥
 
 -- where nothing is found, row j of b has all marks of row i of a
 pub none-only : (a : List ℕ) (i : ℕ) (b : List ℕ) (j : ℕ) → ((v : ℕ) → Only a i b j v → ⊥)
-    → (v : ℕ) → v < 256 → T (marked a i v) → T (marked b j v)
+    → (v : ℕ) → v < mostEvents → T (marked a i v) → T (marked b j v)
 none-only a i b j none v h t =
     ⊎-elim
     (λ y. y)

@@ -1,9 +1,15 @@
-// Rows of marks for up to 256 events, in words of 32 bits: is it set, set it, remove it, join two rows, have two rows a mark in common,
+// Rows of marks, one for each event, in words of 32 bits: is it set, set it, remove it, join two rows, have two rows a mark in common,
 // and which. The definitions are in specs/; a caller needs `marked` and what these contracts say of it.
 ghost use Prim.Native.Nat.{_<_};
 ghost use mathlib.Core.Path.{_≡_};
+ghost use Rattle.ids.specs.Lent.{was, is};
+ghost use Rattle.ids.specs.Limits.{mostEvents};
 ghost use Rattle.marks.specs.Marks.{marked, meeting, HasRow, MarkAdded, MarkRemoved, RowJoined, SetBit};
 ghost use Rattle.marks.specs.Search.{Both, Only, Tells};
+use ids::WORDS;
+
+// The bits of a word.
+const BITS: usize = 32;
 
 // What a search in two rows finds.
 pub enum Found {
@@ -13,36 +19,36 @@ pub enum Found {
 
 pub fn is_marked(rows: &[u32], i: usize, j: usize) -> bool
     requires { ⌜ HasRow (now rows) i ⌝ }
-    requires { ⌜ j < 256 ⌝ }
-    ensures { λ r. ⌜ r ≡ marked (now (rows .entry)) i j ⌝ }
+    requires { ⌜ j < mostEvents ⌝ }
+    ensures { λ r. ⌜ r ≡ marked (was rows) i j ⌝ }
 {
-    (rows[i * 8 + j / 32] >> (j % 32)) % 2 == 1
+    (rows[i * WORDS + j / BITS] >> (j % BITS)) % 2 == 1
 }
 
 pub fn mark(rows: &mut [u32], i: usize, j: usize)
     requires { ⌜ HasRow (now rows) i ⌝ }
-    requires { ⌜ j < 256 ⌝ }
-    ensures { λ _. ⌜ MarkAdded (now (rows .entry)) (now (rows .exit)) i j ⌝ }
+    requires { ⌜ j < mostEvents ⌝ }
+    ensures { λ _. ⌜ MarkAdded (was rows) (is rows) i j ⌝ }
 {
-    rows[i * 8 + j / 32] |= 1u32 << (j % 32);
+    rows[i * WORDS + j / BITS] |= 1u32 << (j % BITS);
 }
 
 pub fn unmark(rows: &mut [u32], i: usize, j: usize)
     requires { ⌜ HasRow (now rows) i ⌝ }
-    requires { ⌜ j < 256 ⌝ }
-    ensures { λ _. ⌜ MarkRemoved (now (rows .entry)) (now (rows .exit)) i j ⌝ }
+    requires { ⌜ j < mostEvents ⌝ }
+    ensures { λ _. ⌜ MarkRemoved (was rows) (is rows) i j ⌝ }
 {
-    rows[i * 8 + j / 32] &= !(1u32 << (j % 32));
+    rows[i * WORDS + j / BITS] &= !(1u32 << (j % BITS));
 }
 
 // Joins the row `from` into the row `into`.
 pub fn join(rows: &mut [u32], from: usize, into: usize)
     requires { ⌜ HasRow (now rows) from ⌝ }
     requires { ⌜ HasRow (now rows) into ⌝ }
-    ensures { λ _. ⌜ RowJoined (now (rows .entry)) (now (rows .exit)) from into ⌝ }
+    ensures { λ _. ⌜ RowJoined (was rows) (is rows) from into ⌝ }
 {
-    for k in 0..8 {
-        rows[into * 8 + k] |= rows[from * 8 + k];
+    for k in 0..WORDS {
+        rows[into * WORDS + k] |= rows[from * WORDS + k];
     }
 }
 
@@ -50,11 +56,11 @@ pub fn join(rows: &mut [u32], from: usize, into: usize)
 pub fn meets(a: &[u32], i: usize, b: &[u32], j: usize) -> bool
     requires { ⌜ HasRow (now a) i ⌝ }
     requires { ⌜ HasRow (now b) j ⌝ }
-    ensures { λ r. ⌜ r ≡ meeting (now (a .entry)) i (now (b .entry)) j ⌝ }
+    ensures { λ r. ⌜ r ≡ meeting (was a) i (was b) j ⌝ }
 {
     let mut both: u32 = 0;
-    for k in 0..8 {
-        both |= a[i * 8 + k] & b[j * 8 + k];
+    for k in 0..WORDS {
+        both |= a[i * WORDS + k] & b[j * WORDS + k];
     }
     both != 0
 }
@@ -71,14 +77,14 @@ fn top(x: u32) -> usize
 pub fn last_common(a: &[u32], i: usize, b: &[u32], j: usize) -> Found
     requires { ⌜ HasRow (now a) i ⌝ }
     requires { ⌜ HasRow (now b) j ⌝ }
-    ensures { λ r. ⌜ Tells (Both (now (a .entry)) i (now (b .entry)) j) r ⌝ }
+    ensures { λ r. ⌜ Tells (Both (was a) i (was b) j) r ⌝ }
 {
-    let mut k: usize = 8;
+    let mut k: usize = WORDS;
     while k > 0 {
         k -= 1;
-        let x = a[i * 8 + k] & b[j * 8 + k];
+        let x = a[i * WORDS + k] & b[j * WORDS + k];
         if x != 0 {
-            return Found::At(k * 32 + top(x));
+            return Found::At(k * BITS + top(x));
         }
     }
     Found::Nothing
@@ -88,14 +94,14 @@ pub fn last_common(a: &[u32], i: usize, b: &[u32], j: usize) -> Found
 pub fn last_only(a: &[u32], i: usize, b: &[u32], j: usize) -> Found
     requires { ⌜ HasRow (now a) i ⌝ }
     requires { ⌜ HasRow (now b) j ⌝ }
-    ensures { λ r. ⌜ Tells (Only (now (a .entry)) i (now (b .entry)) j) r ⌝ }
+    ensures { λ r. ⌜ Tells (Only (was a) i (was b) j) r ⌝ }
 {
-    let mut k: usize = 8;
+    let mut k: usize = WORDS;
     while k > 0 {
         k -= 1;
-        let x = a[i * 8 + k] & !b[j * 8 + k];
+        let x = a[i * WORDS + k] & !b[j * WORDS + k];
         if x != 0 {
-            return Found::At(k * 32 + top(x));
+            return Found::At(k * BITS + top(x));
         }
     }
     Found::Nothing

@@ -1,15 +1,22 @@
--- What demand 3 compares: more tokens opening, more order, other numbers at other places. Document 01, "Compact tokenflow".
+-- What is compared: another opening count, more order, other numbers at other places. Demand 3, and document 01, "Compact tokenflow".
 use Prim.Native.Nat.{ℕ, _+_, _<_}
+use mathlib.Core.Bool.{cond}
+use mathlib.Core.Logic.{_↔_}
 use mathlib.Core.Path.{_≡_}
 use lib.Dec.{eqb}
 use Rattle.finite.specs.Sum.{on}
-use Rattle.plan.specs.Net.{Net, Plan}
+use Rattle.plan.specs.Net.{Net, Plan, takenBy, givenBy}
 use Rattle.plan.specs.Order.{Before}
 
 -- The net with k more tokens opening at the place p, all else the same.
 abbrev pub withMore : Net → ℕ → ℕ → Net
 withMore N p k =
     record { places = N .places; transitions = N .transitions; opening = λ q. N .opening q + on (eqb q p) k; takes = N .takes; gives = N .gives }
+
+-- The net with k tokens opening at the place p, all else the same.
+abbrev pub opensWith : Net → ℕ → ℕ → Net
+opensWith N p k =
+    record { places = N .places; transitions = N .transitions; opening = λ q. cond (eqb q p) k (N .opening q); takes = N .takes; gives = N .gives }
 
 -- The second plan has more order among the same events: the number of events and the labels are the same, and whatever is before an
 -- event in the first is before it in the second too, whichever pairs say so. 001 and 002: a sequentialization.
@@ -24,3 +31,15 @@ pub record SameAt (p : ℕ) (N M : Net) : Type 0 where
   pub opening : N .opening p ≡ M .opening p
   pub takes : (t : ℕ) → t < N .transitions → N .takes t p ≡ M .takes t p
   pub gives : (t : ℕ) → t < N .transitions → N .gives t p ≡ M .gives t p
+
+-- A place under a plan, and another, maybe of another net and under another plan: as many events, and each takes and gives the same there.
+pub record SameWeights (N : Net) (P : Plan) (p : ℕ) (M : Net) (Q : Plan) (q : ℕ) : Type 0 where
+  pub events : P .events ≡ Q .events
+  pub takes : (v : ℕ) → v < P .events → takenBy N P p v ≡ takenBy M Q q v
+  pub gives : (v : ℕ) → v < P .events → givenBy N P p v ≡ givenBy M Q q v
+
+-- Two such places with the same order and the same opening count.
+pub record SamePlace (N : Net) (P : Plan) (p : ℕ) (M : Net) (Q : Plan) (q : ℕ) : Type 0 where
+  pub weights : SameWeights N P p M Q q
+  pub order : (u v : ℕ) → Before P u v ↔ Before Q u v
+  pub opening : N .opening p ≡ M .opening q

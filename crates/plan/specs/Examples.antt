@@ -10,8 +10,8 @@ use Rattle.finite.specs.Bounded.{all, any, _⇒_}
 use Rattle.finite.specs.Subset.{Set, greatest, every}
 use Rattle.finite.specs.Sum.{sum, over, atEnd}
 use Rattle.plan.specs.Net.{Net, Plan}
-use Rattle.plan.specs.Order.{before, beforeBy, skeleton, paired, free}
-use Rattle.plan.specs.Prefix.{prefix, front, tokens, lack, missing, smallest, endCount, runsAt}
+use Rattle.plan.specs.Order.{before, beforeBy, skeleton, paired, freeCount}
+use Rattle.plan.specs.Prefix.{prefix, front, tokens, lack, missing, need, leastOpening, smallest, endCount, runsAt}
 use Rattle.plan.specs.Flow.{inflow, outflow, shares, rule1, rule2, rule3, rule4, valid, otherwiseValid, overrun}
 
 -- two numbers: an event as takes/gives, or a pair as (earlier, later)
@@ -67,6 +67,10 @@ rightSet : Example → Bool
 rightSet e =
     ltb 0 (e .missing) ⇒ all (length (e .events)) (λ v. Bool·beq (smallest (netOf e) (planOf e) 0 v) (holds (e .done) v))
 
+-- the least opening count is what the flow's shares come to
+rightLeast : Example → Bool
+rightLeast e = eqb (leastOpening (netOf e) (planOf e) 0) (shares (planOf e) (at (e .flow)))
+
 -- the flow is otherwise valid and overruns by the missing count; it is valid exactly if the plan runs
 rightFlow : Example → Bool
 rightFlow e =
@@ -74,7 +78,7 @@ rightFlow e =
 
 pub agree : List Example → Bool
 agree [] = true
-agree (e ∷ es) = rightCount e && rightSet e && rightFlow e && agree es
+agree (e ∷ es) = rightCount e && rightSet e && rightLeast e && rightFlow e && agree es
 
 pub starred : List Example
 starred =
@@ -93,7 +97,7 @@ starred =
     ∷ []
 
 pub starred-agree : T (agree starred)
-unfolding agree rightCount rightSet rightFlow starred holds all any sum over atEnd greatest every before beforeBy skeleton prefix front tokens lack missing smallest runsAt inflow outflow shares rule1 rule2 rule3 rule4 valid otherwiseValid overrun
+unfolding agree rightCount rightSet rightLeast rightFlow starred holds all any sum over atEnd greatest every before beforeBy skeleton prefix front tokens lack missing need leastOpening smallest runsAt inflow outflow shares rule1 rule2 rule3 rule4 valid otherwiseValid overrun
 starred-agree = tt
 
 -- The plan of document 01's listing: its free count, and each place's end and missing count.
@@ -110,8 +114,8 @@ listingNet =
 pub listingPlan : Plan
 listingPlan = record { events = 3; label = at (0 ∷ 0 ∷ 1 ∷ []); pairs = 1; earlier = λ i. 0; later = λ i. 2 }
 
-pub listing-agrees : (free listingPlan ≡ 2) × (endCount listingNet listingPlan 0 ≡ negsuc 0) × (endCount listingNet listingPlan 1 ≡ pos 1) × (endCount listingNet listingPlan 2 ≡ pos 1) × (missing listingNet listingPlan 0 ≡ 1) × (missing listingNet listingPlan 1 ≡ 0) × (missing listingNet listingPlan 2 ≡ 0)
-unfolding listingNet listingPlan free paired endCount tokens missing lack prefix front before beforeBy all any sum over greatest
+pub listing-agrees : (freeCount listingPlan ≡ 2) × (endCount listingNet listingPlan 0 ≡ negsuc 0) × (endCount listingNet listingPlan 1 ≡ pos 1) × (endCount listingNet listingPlan 2 ≡ pos 1) × (missing listingNet listingPlan 0 ≡ 1) × (missing listingNet listingPlan 1 ≡ 0) × (missing listingNet listingPlan 2 ≡ 0)
+unfolding listingNet listingPlan freeCount paired endCount tokens missing lack prefix front before beforeBy all any sum over greatest
 listing-agrees = (refl, refl, refl, refl, refl, refl, refl)
 
 -- Four events in a row with the pair (0, 3) given as well: that one pair has events between its ends, so it is no skeleton pair.

@@ -35,8 +35,8 @@ paired P u v =
     (λ i. (eqb (P .earlier i) u && eqb (P .later i) v) || (eqb (P .earlier i) v && eqb (P .later i) u))
 
 -- The free count: the number of unordered pairs of two events for which no order pair is given.
-unfoldable pub free : Plan → ℕ
-free P = sum (P .events) (λ v. sum v (λ u. on (not (paired P u v)) 1))
+unfoldable pub freeCount : Plan → ℕ
+freeCount P = sum (P .events) (λ v. sum v (λ u. on (not (paired P u v)) 1))
 
 -- A pair is a skeleton pair if no event lies between its two ends. 003: an arc of the transitive reduction.
 unfoldable pub skeleton : Plan → ℕ → Bool

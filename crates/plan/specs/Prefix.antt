@@ -46,6 +46,16 @@ above0 (negsuc n) = 0
 unfoldable pub missing : Net → Plan → ℕ → ℕ
 missing N P p = greatest (P .events) (λ D. on (prefix P D) (above0 (lack N P p D)))
 
+-- What a done set needs of the opening count: takes of its members + takes of its front − gives of its members. It doesn't know the
+-- opening count: the lack is what it is above that.
+unfoldable pub need : Net → Plan → ℕ → Set → ℤ
+need N P p D =
+    pos (over (P .events) D (takenBy N P p)) +ℤ pos (over (P .events) (front P D) (takenBy N P p)) -ℤ pos (over (P .events) D (givenBy N P p))
+
+-- The least opening count with which the plan runs at a place: the greatest need over all done sets. The empty set's is never below 0.
+unfoldable pub leastOpening : Net → Plan → ℕ → ℕ
+leastOpening N P p = greatest (P .events) (λ D. on (prefix P D) (above0 (need N P p D)))
+
 -- A plan runs at a place if its missing count is 0, and runs if that holds at every place.
 unfoldable pub runsAt : Net → Plan → ℕ → Bool
 runsAt N P p = eqb (missing N P p) 0

@@ -5,18 +5,24 @@ use mathlib.Core.List.{List}
 use mathlib.Core.Logic.{⊎-elim}
 use mathlib.Core.Path.{_≡_, sym, subst}
 use lib.Dec.{T, eqb, eqb→eq, eqb-refl}
+use lib.ListN.{replicate}
 use mir.Facts.{or-yes}
 use Rattle.finite.specs.Bounded.{yes-or-left, yes-or-right}
+use Rattle.finite.specs.Search.{fails}
 use Rattle.finite.specs.Subset.{Set, insert, set-ext}
-use Rattle.marks.specs.Marks.{marked, MarkAdded}
-use Rattle.search.specs.Row.{members, In, in-below, in-marked, marked-in}
+use Rattle.marks.specs.Marks.{marked, none-marked}
+use Rattle.search.specs.Row.{members, In, Empty, in-below, in-marked, marked-in}
+use Rattle.search.specs.Steps.{Joined}
 
-module _ (old new : List ℕ) (x : ℕ) (l : x < 256) (m : MarkAdded old new 0 x) where
+pub zeros-empty : (n : ℕ) → Empty (replicate n 0)
+zeros-empty n v h = fails (marked (replicate n 0) 0 v) (none-marked n 0 v) (in-marked (replicate n 0) v h)
+
+module _ {old new list list′ : List ℕ} {x at y : ℕ} (j : Joined old new x list list′ at y) where
   pub gained : members new ≡ insert x (members old)
   gained = set-ext (members new) (insert x (members old)) to from
     where
       is : (v : ℕ) → v < 256 → marked new 0 v ≡ (marked old 0 v || eqb v x)
-      is v h = m .marks 0 v h
+      is v h = j .mark .marks 0 v h
 
       to : (v : ℕ) → In new v → T (eqb v x || members old v)
       to v h =
@@ -29,7 +35,7 @@ module _ (old new : List ℕ) (x : ℕ) (l : x < 256) (m : MarkAdded old new 0 x
       from v h =
           ⊎-elim
           (λ e.
-          let below = subst (λ (y : ℕ). y < 256) (sym (eqb→eq v x e)) l in
+          let below = subst (λ (y : ℕ). y < 256) (sym (eqb→eq v x e)) (j .event) in
           marked-in new v below (subst T (sym (is v below)) (yes-or-right (marked old 0 v) (eqb v x) e)))
           (λ t.
           let below = in-below old v t in

@@ -1,5 +1,5 @@
-mod Zeros
 mod Gain
 mod Queue
 mod Reasons
+mod Told
 mod Rounds

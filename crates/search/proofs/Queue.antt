@@ -8,15 +8,15 @@ use lib.Seq.{getD-set-same, getD-set-other}
 use Rattle.finite.specs.Bounded.{below-suc}
 use Rattle.finite.specs.Count.{count, count-none, count-insert, count-le, count-room}
 use Rattle.finite.specs.Subset.{insert}
-use Rattle.marks.specs.Marks.{MarkAdded}
 use Rattle.search.specs.Row.{members, In, Empty}
 use Rattle.search.specs.Trail.{_!_}
 use Rattle.search.specs.Searched.{Listed}
+use Rattle.search.specs.Steps.{Put, Joined}
 use Rattle.search.proofs.Gain.{gained, gain-cases, gain-keeps, gain-has}
 
 -- what lies before the end stays
-pub kept : (xs : List ℕ) (end x i : ℕ) → i < end → set xs end x ! i ≡ xs ! i
-kept xs end x i l = getD-set-other xs end i x 0 (λ e. omega arith)
+pub kept : {old new : List ℕ} {end x : ℕ} → Put old new end x → (i : ℕ) → i < end → new ! i ≡ old ! i
+kept p i l = p .others i (λ e. omega arith)
 
 -- the places below end + 1 are end and those below it
 pub below-next : {X : Type 0} (end i : ℕ) → i < end + 1 → (i < end → X) → (i ≡ end → X) → X
@@ -31,56 +31,52 @@ none-listed row queue none =
       once = λ i j h k e. omega arith;
     }
 
-pub listed-le : (row queue : List ℕ) (tail : ℕ) → Listed row queue tail → tail ≤ 256
-listed-le row queue tail q = omega (arith, q .counted, count-le 256 (members row))
+pub listed-le : {row queue : List ℕ} {tail : ℕ} → Listed row queue tail → tail ≤ 256
+listed-le {row} q = omega (arith, q .counted, count-le 256 (members row))
+
+pub room : {row queue : List ℕ} {tail : ℕ} → Listed row queue tail → (x : ℕ) → x < 256 → (In row x → ⊥) → tail < 256
+room {row} q x l fresh = omega (arith, q .counted, count-room 256 x (members row) l fresh)
 
 -- a new member leaves fewer to come
-pub fewer-left : (row new : List ℕ) (x : ℕ) → x < 256 → (In row x → ⊥) → MarkAdded row new 0 x
+pub fewer-left : {row new list list′ : List ℕ} {x at y : ℕ} → Joined row new x list list′ at y → (In row x → ⊥)
     → 256 - count 256 (members new) < 256 - count 256 (members row)
-fewer-left row new x l fresh m =
-    omega (
-      arith,
-      count-insert 256 x (members row) l fresh,
-      count-le 256 (insert x (members row)),
-      ap (count 256) (gained row new x l m),
-    )
+fewer-left {row} {x = x} j fresh =
+    omega (arith, count-insert 256 x (members row) (j .event) fresh, count-le 256 (insert x (members row)), ap (count 256) (gained j))
 
-module _ (row queue : List ℕ) (tail x : ℕ) (l : x < 256) (fresh : In row x → ⊥) (q : Listed row queue tail) where
-  pub room : tail < 256
-  room = omega (arith, q .counted, count-room 256 x (members row) l fresh)
+pub listed-more : {row new queue queue′ : List ℕ} {tail x : ℕ} → Joined row new x queue queue′ tail x → (In row x → ⊥)
+    → Listed row queue tail → Listed new queue′ (tail + 1)
+listed-more {row} {new} {queue} {queue′} {tail} {x} j fresh q =
+    record {
+      listed = λ i h.
+          below-next
+          tail
+          i
+          h
+          (λ low. subst (In new) (sym (kept (j .put) i low)) (gain-keeps j (queue ! i) (q .listed i low)))
+          (λ e. subst (λ (k : ℕ). In new (queue′ ! k)) (sym e) (subst (In new) (sym (j .put .here)) (gain-has j)));
+      placed = λ w h.
+          gain-cases
+          j
+          w
+          h
+          (λ e. (tail, omega arith, j .put .here ∙ sym e))
+          (λ old. let p = q .placed w old in (p .0, omega (arith, p .1), kept (j .put) (p .0) (p .1) ∙ p .2));
+      counted =
+          ap (λ (k : ℕ). k + 1) (q .counted) ∙ sym (count-insert 256 x (members row) (j .event) fresh)
+          ∙ ap (count 256) (sym (gained j));
+      once = λ i j′ h k e.
+          below-next
+          tail
+          j′
+          k
+          (λ low. q .once i j′ h low (sym (kept (j .put) i (omega arith)) ∙ e ∙ kept (j .put) j′ low))
+          (λ end.
+          fresh
+          (subst
+          (In row)
+          (sym (kept (j .put) i (omega arith)) ∙ e ∙ ap (λ (z : ℕ). queue′ ! z) end ∙ j .put .here)
+          (q .listed i (omega arith))));
+    }
 
-  pub listed-more : (new : List ℕ) → MarkAdded row new 0 x → tail < length queue → Listed new (set queue tail x) (tail + 1)
-  listed-more new m fits =
-      record {
-        listed = λ i h.
-            below-next
-            tail
-            i
-            h
-            (λ low. subst (In new) (sym (kept queue tail x i low)) (gain-keeps row new x l m (queue ! i) (q .listed i low)))
-            (λ e. subst (λ (k : ℕ). In new (set queue tail x ! k)) (sym e) (subst (In new) (sym at-end) (gain-has row new x l m)));
-        placed = λ w h.
-            gain-cases
-            row
-            new
-            x
-            l
-            m
-            w
-            h
-            (λ e. (tail, omega arith, at-end ∙ sym e))
-            (λ old. let p = q .placed w old in (p .0, omega (arith, p .1), kept queue tail x (p .0) (p .1) ∙ p .2));
-        counted =
-            ap (λ (k : ℕ). k + 1) (q .counted) ∙ sym (count-insert 256 x (members row) l fresh)
-            ∙ ap (count 256) (sym (gained row new x l m));
-        once = λ i j h k e.
-            below-next
-            tail
-            j
-            k
-            (λ low. q .once i j h low (sym (kept queue tail x i (omega arith)) ∙ e ∙ kept queue tail x j low))
-            (λ end. fresh (subst (In row) (sym (kept queue tail x i (omega arith)) ∙ e ∙ ap (λ (z : ℕ). set queue tail x ! z) end ∙ at-end) (q .listed i (omega arith))));
-      }
-    where
-      at-end : set queue tail x ! tail ≡ x
-      at-end = getD-set-same queue tail x 0 fits
+pub stored : (xs : List ℕ) (at x : ℕ) → at < length xs → Put xs (set xs at x) at x
+stored xs at x fits = record { here = getD-set-same xs at x 0 fits; others = λ i other. getD-set-other xs at i x 0 other }

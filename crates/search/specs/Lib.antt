@@ -1,5 +1,5 @@
 pub mod Row
-pub mod Closed
+pub mod Exhausted
 pub mod Trail
 pub mod Searched
 pub mod Steps

@@ -12,13 +12,13 @@ use lib.ListN.{length, take}
 use lib.Seq.{length-take-le, take-all}
 use Rattle.numbers.specs.Number.{number-take}
 use Rattle.finite.specs.Bounded.{any-ext, decide}
-use Rattle.sheet.specs.Table.{start, count, limit, itemLength, item, bodyEnd, due}
+use Rattle.sheet.specs.Table.{tableLength, start, count, limit, itemLength, item, bodyEnd, due}
 use Rattle.sheet.specs.Faults.{tooShort, overLimitAt, overLimit, misplacedAt, misplaced, wrongEnd, layoutFaults, firstFault, faultOf}
-use Rattle.sheet.specs.Laid.{longest}
+use Rattle.sheet.specs.Laid.{longestSheet, longest}
 use Rattle.sheet.specs.Faultless.{layout-laid, layout-decides}
 
 abbrev pub enoughBytes : ℕ
-enoughBytes = 21281
+enoughBytes = longestSheet + 1
 
 -- that much of a sheet
 abbrev pub enough : List ℕ → List ℕ
@@ -55,9 +55,9 @@ starts-enough s =
 abbrev ofThree : Bool → Bool → Bool → ℕ
 ofThree two three four = cond two 2 (cond three 3 (cond four 4 0))
 
-long-fault : (s : List ℕ) → 32 ≤ length s → firstFault layoutFaults s ≡ ofThree (overLimit s) (misplaced s) (wrongEnd s)
+long-fault : (s : List ℕ) → tableLength ≤ length s → firstFault layoutFaults s ≡ ofThree (overLimit s) (misplaced s) (wrongEnd s)
 unfolding layoutFaults firstFault tooShort
-long-fault s l = simp (le-ltb (length s) 32 l)
+long-fault s l = simp (le-ltb (length s) tableLength l)
 
 too-long : (s : List ℕ) → enoughBytes ≤ length s → ¬ (firstFault layoutFaults s ≡ 0)
 too-long s l none = omega (arith, longest s (layout-laid s none))

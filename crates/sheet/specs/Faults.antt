@@ -6,12 +6,12 @@ use lib.Dec.{leb, ltb, eqb}
 use lib.ListN.{length}
 use Rattle.finite.specs.Bounded.{any}
 use Rattle.plan.specs.Order.{before}
-use Rattle.sheet.specs.Table.{start, count, limit, bodyEnd, due, placesOf, transitionsOf, eventsOf, pairsOf}
+use Rattle.sheet.specs.Table.{tableLength, start, count, limit, bodyEnd, due, placesOf, transitionsOf, eventsOf, pairsOf}
 use Rattle.sheet.specs.Items.{openingAt, takesAt, givesAt, labelAt, earlierAt, laterAt, planOf}
 
--- 1: fewer than 32 bytes
+-- 1: fewer bytes than the table has
 unfoldable pub tooShort : List ℕ → Bool
-tooShort s = ltb (length s) 32
+tooShort s = ltb (length s) tableLength
 
 -- 2: an item count above its limit
 unfoldable pub overLimitAt : List ℕ → ℕ → Bool

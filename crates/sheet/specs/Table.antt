@@ -2,7 +2,12 @@
 use Prim.Native.Nat.{ℕ, zero, suc, _+_, _*_}
 use mathlib.Core.List.{List, [], _∷_}
 use lib.ListN.{getD}
+use Rattle.ids.specs.Limits.{mostPlaces, mostTransitions, mostEvents, mostPairs}
 use Rattle.numbers.specs.Number.{number}
+
+-- the bytes of the table
+abbrev pub tableLength : ℕ
+tableLength = 32
 
 -- the start of entry e's body (4 bytes, from the sheet's beginning)
 unfoldable pub start : List ℕ → ℕ → ℕ
@@ -27,7 +32,7 @@ pairsOf s = count s 3
 
 -- most items: places, transitions, events, pairs
 unfoldable pub limit : ℕ → ℕ
-limit e = getD (64 ∷ 64 ∷ 256 ∷ 1024 ∷ []) e 0
+limit e = getD (mostPlaces ∷ mostTransitions ∷ mostEvents ∷ mostPairs ∷ []) e 0
 
 -- the bytes of one item: an opening count; takes and gives for each place; a transition number; two event numbers
 unfoldable pub itemLength : List ℕ → ℕ → ℕ
@@ -41,7 +46,7 @@ item s e i = start s e + itemLength s e * i
 unfoldable pub bodyEnd : List ℕ → ℕ → ℕ
 bodyEnd s e = item s e (count s e)
 
--- Bodies follow in the same order, without gaps; the first starts at 32.
+-- Bodies follow in the same order, without gaps; the first starts where the table ends.
 unfoldable pub due : List ℕ → ℕ → ℕ
-due s zero = 32
+due s zero = tableLength
 due s (suc e) = bodyEnd s e

@@ -5,6 +5,7 @@ use mathlib.Core.List.{List}
 use lib.Dec.{ltb}
 use lib.ListN.{getD}
 use Rattle.finite.specs.Sum.{sum, on}
+use Rattle.ids.specs.Limits.{mostPlaces}
 use Rattle.summary.specs.declared.Verdict.{Verdict}
 use Rattle.summary.specs.declared.Verdict.the-variants.{Runs, Short}
 
@@ -40,7 +41,11 @@ verdictCount (Short p m) = m
 abbrev pub countAt : List ℕ → ℕ → ℕ
 countAt row p = getD row p 0
 
--- A row of counts: 64 at most, each at most 256,000.
+-- The greatest missing count: every event takes the greatest weight, 1,000.
+abbrev pub mostMissing : ℕ
+mostMissing = 256000
+
+-- A row of missing counts, one for each place.
 pub record MissingCounts (row : List ℕ) (n : ℕ) : Type 0 where
-  pub few : n ≤ 64
-  pub most : (p : ℕ) → p < n → countAt row p ≤ 256000
+  pub few : n ≤ mostPlaces
+  pub most : (p : ℕ) → p < n → countAt row p ≤ mostMissing

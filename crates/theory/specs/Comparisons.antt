@@ -1,115 +1,187 @@
--- How the missing count changes with the opening count and the order, and that other places' numbers don't matter.
+-- What the numbers at a place depend on: what each event takes and gives there, the order and the opening count. How they change with the last two.
 use Prim.Native.Nat.{ℕ, _+_, _-_, _≤_, _<_}
 use native.Mathlib.Nat.{le-antisymm}
 use native.Mathlib.Omega.{arith}
+use mathlib.Core.Bool.{Bool, true, false, cond, _&&_}
 use mathlib.Core.Logic.{⊎-elim}
 use mathlib.Core.Path.{_≡_, refl, sym, ap, ap₂, subst, fun-ext, _∙_}
-use lib.Dec.{T, T-not, eqb, eqb-refl}
+use lib.Dec.{T, eqb, eqb-refl, ltb}
+use lib.IntN.{ℤ, pos, _+ℤ_, _-ℤ_}
 use mir.Facts.{or-yes}
-use Rattle.finite.specs.Bounded.{decide, yes-or-left, yes-or-right}
-use Rattle.finite.specs.Subset.{Set, Within, greatest, greatest-least}
-use Rattle.finite.specs.Sum.{on, over, on-yes, on-no, on-mono, sum-mono, sum-ext, on-le}
+use Rattle.finite.specs.Bounded.{same, yes-or-left, yes-or-right, _⇒_}
+use Rattle.finite.specs.Subset.{Set, every, set-ext}
+use Rattle.finite.specs.Sum.{on, over, on-yes, on-mono, sum-mono, sum-ext}
 use Rattle.plan.specs.Net.{Net, Plan, Labelled, takenBy, givenBy}
-use Rattle.plan.specs.Prefix.{prefix, front, missing}
-use Rattle.plan.specs.Compare.{withMore, MoreOrder, SameAt}
-use Rattle.theory.specs.Missing.{taken, supply, lack-above0, bounded}
+use Rattle.plan.specs.Order.{Before}
+use Rattle.plan.specs.Prefix.{prefix, front, tokens, lack, above0, missing, need, leastOpening, smallest, full, endCount}
+use Rattle.plan.specs.Compare.{withMore, opensWith, MoreOrder, SameAt, SameWeights, SamePlace}
+use Rattle.theory.specs.Least.{taken, given, least-covers, least-is-least}
+use Rattle.theory.specs.Missing.{missing-opening}
 use Rattle.theory.specs.Prefixes.{prefix-closed, closed-prefix, front-yes, yes-front, reached}
 
--- what a set of events counts for in the missing count
-value : Net → Plan → ℕ → Set → ℕ
-value N P p D = on (prefix P D) (taken N P p D - supply N P p D)
-
-missing-value : (N : Net) (P : Plan) (p : ℕ) → missing N P p ≡ greatest (P .events) (value N P p)
-unfolding missing value
-missing-value N P p = ap (greatest (P .events)) (fun-ext (λ D. ap (on (prefix P D)) (lack-above0 N P p D)))
-
--- it is at most a bound as soon as the lack of every done set is
-pub missing-least : (N : Net) (P : Plan) (p M : ℕ) → ((D : Set) → Within (P .events) D → T (prefix P D) → taken N P p D ≤ M + supply N P p D) → missing N P p ≤ M
-unfolding value
-missing-least N P p M h =
-    subst
-    (λ (m : ℕ). m ≤ M)
-    (sym (missing-value N P p))
-    (greatest-least (P .events) (value N P p) M (λ D w. ⊎-elim (λ t. omega (arith, h D w t, on-le (prefix P D) (taken N P p D - supply N P p D))) (λ t. omega (arith, on-no (prefix P D) (taken N P p D - supply N P p D) (T-not (prefix P D) t))) (decide (prefix P D))))
-
--- ---- k more tokens opening
+-- ---- the least opening count doesn't know the opening count
 
 module _ (N : Net) (P : Plan) (p k : ℕ) where
-  more-supply : (D : Set) → supply (withMore N p k) P p D ≡ supply N P p D + k
-  unfolding supply
-  more-supply D = omega (arith, on-yes (eqb p p) k (eqb-refl p))
+  pub least-more : leastOpening (withMore N p k) P p ≡ leastOpening N P p
+  unfolding leastOpening need
+  least-more = refl
 
-  more-taken : (D : Set) → taken (withMore N p k) P p D ≡ taken N P p D
-  unfolding taken
-  more-taken D = refl
+  pub least-opens : leastOpening (opensWith N p k) P p ≡ leastOpening N P p
+  unfolding leastOpening need
+  least-opens = refl
 
   -- k more tokens opening lower the missing count by k, at most to 0.
   pub missing-more : missing (withMore N p k) P p ≡ missing N P p - k
   missing-more =
-      le-antisymm
-      (missing-least (withMore N p k) P p (missing N P p - k) (λ D w t. omega (arith, bounded N P p D w t, more-supply D, more-taken D)))
-      (omega (arith, missing-least N P p (missing (withMore N p k) P p + k) (λ D w t. omega (arith, bounded (withMore N p k) P p D w t, more-supply D, more-taken D))))
+      omega (arith, missing-opening N P p, missing-opening (withMore N p k) P p, least-more, on-yes (eqb p p) k (eqb-refl p))
 
--- ---- more order
+  -- With k tokens opening it is what the least opening count is above k.
+  pub missing-opens : missing (opensWith N p k) P p ≡ leastOpening N P p - k
+  missing-opens =
+      missing-opening (opensWith N p k) P p ∙ ap₂ _-_ least-opens (taken-branch (eqb p p) k (N .opening p) (eqb-refl p))
+    where
+      taken-branch : (b : Bool) (x y : ℕ) → T b → cond b x y ≡ x
+      taken-branch true x y t = refl
+      taken-branch false x y t = absurd t
 
-module _ (N : Net) (P Q : Plan) (p : ℕ) (m : MoreOrder P Q) (D : Set) where
-  to-first : {v : ℕ} → v < Q .events → v < P .events
-  to-first {v} l = subst (λ (n : ℕ). v < n) (sym (m .events)) l
+-- ---- the same weights, and more order
 
-  to-second : {v : ℕ} → v < P .events → v < Q .events
-  to-second {v} l = subst (λ (n : ℕ). v < n) (m .events) l
+module _ (N : Net) (P : Plan) (p : ℕ) (M : Net) (Q : Plan) (q : ℕ) (s : SameWeights N P p M Q q) where
+  pub turned : SameWeights M Q q N P p
+  turned =
+      record {
+        events = sym (s .events);
+        takes = λ v l. sym (s .takes v (to-first l));
+        gives = λ v l. sym (s .gives v (to-first l));
+      }
+    where
+      to-first : {v : ℕ} → v < Q .events → v < P .events
+      to-first {v} l = subst (λ (n : ℕ). v < n) (sym (s .events)) l
 
-  first-prefix : T (prefix Q D) → T (prefix P D)
-  first-prefix t =
-      closed-prefix P D (record { closed = λ u v lu lv b d. prefix-closed Q D t .closed u v (to-second lu) (to-second lv) (m .order u v b) d })
+  given-same : (D : Set) → given N P p D ≡ given M Q q D
+  unfolding over
+  given-same D =
+      sum-ext (P .events) _ _ (λ v l. ap (on (D v)) (s .gives v l)) ∙ ap (λ (n : ℕ). over n D (givenBy M Q q)) (s .events)
 
-  first-reached : (v : ℕ) → T (reached Q D v) → T (reached P D v)
-  first-reached v t =
-      ⊎-elim
-      (λ d. yes-or-left (D v) (front P D v) d)
-      (λ f. let g = front-yes Q D v f in yes-or-right (D v) (front P D v) (yes-front P D v (record {
-        outside = g .outside;
-        ready = λ u l b. g .ready u (to-second l) (m .order u v b);
-      })))
-      (or-yes (D v) (front Q D v) t)
+  taken-same : (D : Set) → over (P .events) D (takenBy N P p) ≡ over (Q .events) D (takenBy M Q q)
+  unfolding over
+  taken-same D =
+      sum-ext (P .events) _ _ (λ v l. ap (on (D v)) (s .takes v l)) ∙ ap (λ (n : ℕ). over n D (takenBy M Q q)) (s .events)
 
-  first-takes : taken N Q p D ≤ taken N P p D
-  unfolding taken over
-  first-takes =
-      subst
-      (λ (n : ℕ). over n (reached Q D) (takenBy N Q p) ≤ taken N P p D)
-      (m .events)
-      (sum-mono (P .events) _ _ (λ v l. subst (λ (t : ℕ). on (reached Q D v) (N .takes t p) ≤ on (reached P D v) (takenBy N P p v)) (m .labels v l) (on-mono (reached Q D v) (reached P D v) (takenBy N P p v) (first-reached v))))
+  module _ (order : (u v : ℕ) → Before P u v → Before Q u v) (D : Set) where
+    to-second : {v : ℕ} → v < P .events → v < Q .events
+    to-second {v} l = subst (λ (n : ℕ). v < n) (s .events) l
 
-  first-supply : supply N P p D ≡ supply N Q p D
-  unfolding supply over
-  first-supply =
-      ap (λ (g : ℕ). N .opening p + g) (sum-ext (P .events) _ _ (λ v l. ap (λ (t : ℕ). on (D v) (N .gives t p)) (m .labels v l)) ∙ ap (λ (n : ℕ). over n D (givenBy N Q p)) (m .events))
+    first-prefix : T (prefix Q D) → T (prefix P D)
+    first-prefix t =
+        closed-prefix P D (record { closed = λ u v lu lv b d. prefix-closed Q D t .closed u v (to-second lu) (to-second lv) (order u v b) d })
+
+    first-front : (v : ℕ) → T (front Q D v) → T (front P D v)
+    first-front v t =
+        let f = front-yes Q D v t in
+        yes-front P D v (record { outside = f .outside; ready = λ u l b. f .ready u (to-second l) (order u v b) })
+
+    first-reached : (v : ℕ) → T (reached Q D v) → T (reached P D v)
+    first-reached v t =
+        ⊎-elim
+        (λ d. yes-or-left (D v) (front P D v) d)
+        (λ f. yes-or-right (D v) (front P D v) (first-front v f))
+        (or-yes (D v) (front Q D v) t)
+
+    first-takes : taken M Q q D ≤ taken N P p D
+    unfolding taken over
+    first-takes =
+        subst
+        (λ (n : ℕ). over n (reached Q D) (takenBy M Q q) ≤ taken N P p D)
+        (s .events)
+        (sum-mono (P .events) _ _ (λ v l. subst (λ (t : ℕ). on (reached Q D v) t ≤ on (reached P D v) (takenBy N P p v)) (s .takes v l) (on-mono (reached Q D v) (reached P D v) (takenBy N P p v) (first-reached v))))
+
+  -- More order never raises the least opening count.
+  pub least-order : ((u v : ℕ) → Before P u v → Before Q u v) → leastOpening M Q q ≤ leastOpening N P p
+  least-order order =
+      least-is-least
+      M
+      Q
+      q
+      (leastOpening N P p)
+      (λ D w t. omega (arith, least-covers N P p D (record { below = λ v d. subst (λ (n : ℕ). v < n) (sym (s .events)) (w .below v d) }) (first-prefix order D t), first-takes order D, given-same D))
 
 -- More order never raises the missing count.
 pub missing-order : (N : Net) (P Q : Plan) (p : ℕ) → MoreOrder P Q → missing N Q p ≤ missing N P p
-missing-order N P Q p m =
-    missing-least
-    N
-    Q
-    p
-    (missing N P p)
-    (λ D w t. omega (arith, bounded N P p D (record { below = λ v d. to-first N P Q p m D (w .below v d) }) (first-prefix N P Q p m D t), first-takes N P Q p m D, first-supply N P Q p m D))
+missing-order N P Q p m = omega (arith, missing-opening N P p, missing-opening N Q p, least-order N P p N Q p weights (m .order))
+  where
+    weights : SameWeights N P p N Q p
+    weights =
+        record { events = m .events; takes = λ v l. ap (λ (t : ℕ). N .takes t p) (m .labels v l); gives = λ v l. ap (λ (t : ℕ). N .gives t p) (m .labels v l) }
 
--- ---- other places
+-- ---- the same weights and order
 
-module _ (N M : Net) (P : Plan) (p : ℕ) (lab : Labelled N P) (s : SameAt p N M) (D : Set) where
-  same-taken : taken N P p D ≡ taken M P p D
-  unfolding taken over
-  same-taken = sum-ext (P .events) _ _ (λ v l. ap (on (reached P D v)) (s .takes (P .label v) (lab .named v l)))
+-- All that is said of a place depends on what each event takes and gives there, the order and the opening count alone.
+pub record SameNumbers (N : Net) (P : Plan) (p : ℕ) (M : Net) (Q : Plan) (q : ℕ) : Type 0 where
+  pub same-least : leastOpening N P p ≡ leastOpening M Q q
+  pub same-missing : missing N P p ≡ missing M Q q
+  pub same-lack : (D : Set) → lack N P p D ≡ lack M Q q D
+  pub same-smallest : smallest N P p ≡ smallest M Q q
+  pub same-end : endCount N P p ≡ endCount M Q q
 
-  same-supply : supply N P p D ≡ supply M P p D
-  unfolding supply over
-  same-supply = ap₂ _+_ (s .opening) (sum-ext (P .events) _ _ (λ v l. ap (on (D v)) (s .gives (P .label v) (lab .named v l))))
+module _ (N : Net) (P : Plan) (p : ℕ) (M : Net) (Q : Plan) (q : ℕ) (s : SamePlace N P p M Q q) where
+  back : SameWeights M Q q N P p
+  back = turned N P p M Q q (s .weights)
+
+  least-alike : leastOpening N P p ≡ leastOpening M Q q
+  least-alike =
+      le-antisymm
+      (least-order M Q q N P p back (λ u v. s .order u v .1))
+      (least-order N P p M Q q (s .weights) (λ u v. s .order u v .0))
+
+  missing-alike : missing N P p ≡ missing M Q q
+  missing-alike = omega (arith, missing-opening N P p, missing-opening M Q q, least-alike, s .opening)
+
+  prefix-alike : (D : Set) → prefix P D ≡ prefix Q D
+  prefix-alike D =
+      same
+      (prefix P D)
+      (prefix Q D)
+      (first-prefix M Q q N P p back (λ u v. s .order u v .1) D)
+      (first-prefix N P p M Q q (s .weights) (λ u v. s .order u v .0) D)
+
+  front-alike : (D : Set) → front P D ≡ front Q D
+  front-alike D =
+      set-ext
+      (front P D)
+      (front Q D)
+      (first-front M Q q N P p back (λ u v. s .order u v .1) D)
+      (first-front N P p M Q q (s .weights) (λ u v. s .order u v .0) D)
+
+  tokens-alike : (D : Set) → tokens N P p D ≡ tokens M Q q D
+  unfolding tokens
+  tokens-alike D =
+      ap₂ (λ x y. x -ℤ pos y) (ap₂ (λ x y. pos x +ℤ pos y) (s .opening) (given-same N P p M Q q (s .weights) D)) (taken-same N P p M Q q (s .weights) D)
+
+  lack-alike : (D : Set) → lack N P p D ≡ lack M Q q D
+  unfolding lack
+  lack-alike D =
+      ap₂ (λ x z. pos x -ℤ z) (ap (λ (F : Set). over (P .events) F (takenBy N P p)) (front-alike D) ∙ taken-same N P p M Q q (s .weights) (front Q D)) (tokens-alike D)
+
+  pub same-numbers : SameNumbers N P p M Q q
+  unfolding smallest endCount
+  same-numbers =
+      record {
+        same-least = least-alike;
+        same-missing = missing-alike;
+        same-lack = lack-alike;
+        same-smallest = fun-ext (λ v. ap₂ every (s .weights .events) (fun-ext (λ D. ap₂ (λ x y. (x && y) ⇒ D v) (prefix-alike D) (ap₂ (λ x y. eqb (above0 x) y) (lack-alike D) missing-alike))));
+        same-end = ap (λ (n : ℕ). tokens N P p (λ v. ltb v n)) (s .weights .events) ∙ tokens-alike (full Q);
+      }
 
 -- Other places' numbers don't matter.
 pub missing-same : (N M : Net) (P : Plan) (p : ℕ) → Labelled N P → SameAt p N M → missing N P p ≡ missing M P p
-missing-same N M P p lab s =
-    le-antisymm
-    (missing-least N P p (missing M P p) (λ D w t. omega (arith, bounded M P p D w t, same-taken N M P p lab s D, same-supply N M P p lab s D)))
-    (missing-least M P p (missing N P p) (λ D w t. omega (arith, bounded N P p D w t, same-taken N M P p lab s D, same-supply N M P p lab s D)))
+missing-same N M P p lab s = same-numbers N P p M P p place .same-missing
+  where
+    place : SamePlace N P p M P p
+    place =
+        record {
+          weights = record { events = refl; takes = λ v l. s .takes (P .label v) (lab .named v l); gives = λ v l. s .gives (P .label v) (lab .named v l) };
+          order = λ u v. (λ b. b, λ b. b);
+          opening = s .opening;
+        }

@@ -17,7 +17,8 @@ use Rattle.plan.specs.Order.{Before, chain, before, Sound}
 use Rattle.plan.specs.Closure.{before-test}
 use Rattle.plan.specs.Prefix.{IsPrefix, front, tokens}
 use Rattle.plan.specs.Cut.{IsCoset, IsCut, preset, Covered, Executable}
-use Rattle.theory.specs.Missing.{taken, supply}
+use Rattle.theory.specs.Least.{taken}
+use Rattle.theory.specs.Missing.{supply}
 use Rattle.theory.specs.Prefixes.{reached, front-yes, yes-front, preset-yes, yes-preset, preset-prefix}
 use Rattle.theory.specs.Signs.{tokens-minus, le-minus}
 use Rattle.theory.specs.Skeleton.{before-earlier}

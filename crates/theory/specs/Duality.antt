@@ -14,7 +14,7 @@ use Rattle.plan.specs.Net.{Net, Plan, takenBy, givenBy}
 use Rattle.plan.specs.Order.{Sound}
 use Rattle.plan.specs.Prefix.{IsPrefix, front}
 use Rattle.plan.specs.Flow.{Flow, share, shares, inflow, outflow, rule1, rule2}
-use Rattle.theory.specs.Missing.{taken}
+use Rattle.theory.specs.Least.{taken, given}
 use Rattle.theory.specs.Prefixes.{reached, prefix-stage}
 use Rattle.theory.specs.Signs.{passed-minus, le-minus}
 
@@ -75,7 +75,7 @@ module _ (N : Net) (P : Plan) (p : ℕ) (S : Sound P) (x : Flow) (f : Passes N P
       )
 
   -- The shares cover all that a done set and its front take, less what the done set gives.
-  pub weak-duality : taken N P p D ≤ shares P x + over (P .events) D (givenBy N P p)
+  pub weak-duality : taken N P p D ≤ shares P x + given N P p D
   unfolding shares inflow
   weak-duality =
       omega (

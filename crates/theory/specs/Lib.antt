@@ -3,6 +3,7 @@ pub mod Stage
 pub mod Existence
 pub mod Skeleton
 pub mod Prefixes
+pub mod Least
 pub mod Missing
 pub mod Duality
 pub mod Comparisons

@@ -1,4 +1,4 @@
--- Lack, rule 2 and the cover of a cut without signs: each as a statement about sums of numbers from 0 up.
+-- Need, lack, rule 2 and the cover of a cut without signs: each as a statement about sums of numbers from 0 up.
 use Prim.Native.Nat.{ℕ, zero, suc, _+_, _-_, _≤_}
 use native.Mathlib.Nat.{add-zero, sub-zero}
 use native.Mathlib.Omega.{arith}
@@ -56,6 +56,17 @@ lack-minus f o g t = difference (pos f -ℤ (pos (o + g) -ℤ pos t)) (f + t) (o
 
 pub tokens-minus : (o g t : ℕ) → pos o +ℤ pos g -ℤ pos t ≡ subℕ (o + g) t
 tokens-minus o g t = minus (o + g) t
+
+-- a difference less a number
+pub less-minus : (a b c : ℕ) → subℕ a b -ℤ pos c ≡ subℕ a (c + b)
+less-minus a b c =
+    difference
+    (subℕ a b -ℤ pos c)
+    a
+    (c + b)
+    (sym (+ℤ-assoc (subℕ a b -ℤ pos c) (pos c) (pos b))
+    ∙ ap (λ (z : ℤ). z +ℤ pos b) (-ℤ-+ℤ-cancel (subℕ a b) (pos c) ∙ sym (minus a b))
+    ∙ -ℤ-+ℤ-cancel (pos a) (pos b))
 
 -- what an event may pass on
 pub passed-minus : (i t g : ℕ) → pos i -ℤ pos t +ℤ pos g ≡ subℕ (i + g) t

@@ -13,7 +13,8 @@ use Rattle.finite.specs.Sum.{on, sum, over, on-yes, on-no, on-mono, sum-strict,
 use Rattle.plan.specs.Net.{Net, Plan, takenBy, givenBy}
 use Rattle.plan.specs.Order.{Sound, skeleton}
 use Rattle.plan.specs.Prefix.{IsPrefix, prefix, lack, above0, missing, smallest}
-use Rattle.theory.specs.Missing.{taken, supply, lack-above0, missing-bounds, missing-attained}
+use Rattle.theory.specs.Least.{taken}
+use Rattle.theory.specs.Missing.{supply, lack-above0, missing-bounds, missing-attained}
 use Rattle.theory.specs.Prefixes.{prefix-is, within, reached, prefix-stage, stage-prefix, stage-reached}
 use Rattle.theory.specs.Stage.{Stage, both, either, picked-modular, picked-same, picked-only, stage-both, stage-either, within-both, within-either}
 

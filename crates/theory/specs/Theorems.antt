@@ -4,27 +4,28 @@ use Prim.Native.Nat.{ℕ, _+_, _-_, _≤_, _<_}
 use native.Mathlib.Omega.{arith}
 use mathlib.Core.Bool.{Bool, _&&_}
 use mathlib.Core.Logic.{_⊎_, inl, inr, ⊎-elim, _↔_}
-use mathlib.Core.Path.{_≡_, sym, subst, subst₂}
+use mathlib.Core.Path.{_≡_, refl, sym, ap, subst, subst₂, _∙_}
 use lib.Dec.{T, eqb, eqb→eq, eqb-refl, leb, le→leb, leb→le}
-use lib.IntN.{ℤ, pos, negsuc}
-use lib.Signed.{_≤ℤ_}
+use lib.IntN.{ℤ, pos, negsuc, _-ℤ_}
+use lib.Signed.{leZ, _≤ℤ_}
 use native.Mathlib.Nat.{eq-zero-or-pos}
 use mir.Facts.{and-yes, yes-and}
 use Rattle.finite.specs.Bounded.{all-yes, yes-all}
 use Rattle.finite.specs.Subset.{Set, empty}
-use Rattle.finite.specs.Sum.{over, over-mono}
+use Rattle.finite.specs.Sum.{over, over-mono, sum-zero}
 use Rattle.plan.specs.Net.{Net, Plan, takenBy, Labelled}
 use Rattle.plan.specs.Order.{Sound}
-use Rattle.plan.specs.Prefix.{IsPrefix, front, full, stepLack, lack, above0, missing, runsAt, runs, smallest}
+use Rattle.plan.specs.Prefix.{IsPrefix, front, full, stepLack, lack, above0, missing, need, leastOpening, runsAt, runs, smallest}
 use Rattle.plan.specs.Cut.{IsCut, preset, Executable, Execution}
 use Rattle.plan.specs.Flow.{Flow, rule1, rule2, rule3, rule4, valid, otherwiseValid, overrun, shares}
-use Rattle.plan.specs.Compare.{withMore, MoreOrder, SameAt}
-use Rattle.theory.specs.Comparisons.{missing-more, missing-order, missing-same}
+use Rattle.plan.specs.Compare.{withMore, opensWith, MoreOrder, SameAt}
+use Rattle.theory.specs.Comparisons.{least-opens, missing-more, missing-opens, missing-order, missing-same}
 use Rattle.theory.specs.Cuts.{takenUpTo, some-cut, prefixes-cuts, cuts-prefixes}
-use Rattle.theory.specs.Missing.{taken, supply, step-lack-is, lack-is, lack-above0, missing-bounds, missing-attained}
-use Rattle.theory.specs.Overrun.{overrun-bounds, overrun-attained}
+use Rattle.theory.specs.Least.{taken, given, need-is, need-above0, least-bounds, least-attained}
+use Rattle.theory.specs.Missing.{supply, step-lack-is, lack-is, lack-above0, lack-need, missing-opening, missing-bounds, missing-attained}
+use Rattle.theory.specs.Overrun.{shares-bounds, shares-attained, overrun-bounds, overrun-attained}
 use Rattle.theory.specs.Prefixes.{empty-prefix, full-prefix}
-use Rattle.theory.specs.Signs.{minus-below}
+use Rattle.theory.specs.Signs.{le-minus, minus-below}
 use Rattle.theory.specs.Smallest.{IsSmallest, positive, smallest-is}
 
 -- "The empty set and the full set are done sets."
@@ -59,6 +60,21 @@ pub record PlanVerdict (N : Net) (P : Plan) : Type 0 where
   pub by-cuts : T (runs N P) ↔ Execution N P
   -- and exactly if every place has a valid compact tokenflow (003, theorems 2 to 4)
   pub by-flows : T (runs N P) ↔ ((p : ℕ) → p < N .places → (x : Flow) × T (valid N P p x))
+
+-- The least opening count with which the plan runs at a place.
+pub record LeastOpening (N : Net) (P : Plan) (p : ℕ) : Type 0 where
+  -- it is the greatest need over all done sets
+  pub need-bounds : (D : Set) → IsPrefix P D → need N P p D ≤ℤ pos (leastOpening N P p)
+  pub need-reached : (D : Set) × IsPrefix P D × (need N P p D ≡ pos (leastOpening N P p))
+  -- with k tokens opening the plan runs there exactly if k is no less
+  pub runs-from : (k : ℕ) → T (runsAt (opensWith N p k) P p) ↔ (leastOpening N P p ≤ k)
+  -- some flow otherwise valid has exactly as many shares, none fewer
+  pub shares-reached : (x : Flow) × T (otherwiseValid N P p x) × (shares P x ≡ leastOpening N P p)
+  pub not-undercut : (x : Flow) → T (otherwiseValid N P p x) → leastOpening N P p ≤ shares P x
+  -- it doesn't know the opening count; lack and missing count are what need and least opening count are above that
+  pub any-opening : (k : ℕ) → leastOpening (opensWith N p k) P p ≡ leastOpening N P p
+  pub lack-above : (D : Set) → lack N P p D ≡ need N P p D -ℤ pos (N .opening p)
+  pub missing-above : missing N P p ≡ leastOpening N P p - N .opening p
 
 -- Demand 3, about the definition.
 pub record LeastCount (N : Net) (P : Plan) (p : ℕ) : Type 0 where
@@ -156,6 +172,44 @@ module _ (N : Net) (P : Plan) (p : ℕ) (S : Sound P) where
   -- Where something is missing, the done sets with the greatest lack have one that is contained in all the others.
   pub smallest-set : 0 < missing N P p → IsSmallest N P p (smallest N P p)
   smallest-set short = smallest-is N P p S short
+
+  -- the empty set gives nothing, so its need isn't below 0
+  need-empty : need N P p empty ≡ pos (above0 (need N P p empty))
+  unfolding over
+  need-empty =
+      from-zero (need N P p empty) (subst (λ (z : ℤ). T (leZ (pos 0) z)) (sym (need-is N P p empty)) (le-minus 0 (taken N P p empty) (given N P p empty) .1 (omega (arith, sum-zero (P .events) (λ v. 0) (λ v l. refl)))))
+    where
+      from-zero : (z : ℤ) → T (leZ (pos 0) z) → z ≡ pos (above0 z)
+      from-zero (pos n) t = refl
+      from-zero (negsuc n) t = absurd t
+
+  at-empty : leastOpening N P p ≡ 0 → (D : Set) × IsPrefix P D × (need N P p D ≡ pos (leastOpening N P p))
+  at-empty e = (
+    empty,
+    empty-prefix P,
+    need-empty ∙ ap pos (omega (arith, need-above0 N P p empty, least-bounds N P p S empty (empty-prefix P))),
+  )
+
+  above-empty : 0 < leastOpening N P p → (D : Set) × IsPrefix P D × (need N P p D ≡ pos (leastOpening N P p))
+  above-empty l =
+      let w = least-attained N P p S in
+      (w .0, w .1, positive (need N P p (w .0)) (leastOpening N P p) (omega (arith, w .2, need-above0 N P p (w .0))) l)
+
+  pub least-opening : LeastOpening N P p
+  least-opening =
+      record {
+        need-bounds = λ D d. below-above0 (need N P p D) (leastOpening N P p) (omega (arith, least-bounds N P p S D d, need-above0 N P p D));
+        need-reached = ⊎-elim at-empty above-empty (eq-zero-or-pos (leastOpening N P p));
+        runs-from = λ k. (
+          λ t. omega (arith, missing-opens N P p k, runs-none (opensWith N p k) P p .0 t),
+          λ h. runs-none (opensWith N p k) P p .1 (omega (arith, missing-opens N P p k)),
+        );
+        shares-reached = shares-attained N P p S;
+        not-undercut = λ x t. omega (arith, shares-bounds N P p S x t);
+        any-opening = least-opens N P p;
+        lack-above = lack-need N P p;
+        missing-above = missing-opening N P p;
+      }
 
   pub least-count : LeastCount N P p
   least-count =

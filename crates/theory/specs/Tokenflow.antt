@@ -1,5 +1,5 @@
 -- Tokenflows on "before" (003, definition 4): who gives the tokens that each event takes. A search that finds no spare tokens
--- settles the place: what is left to the opening count is the least, and the events searched are the smallest done set.
+-- settles the place: what is left to the opening count is the least opening count, and the events searched are the smallest done set.
 use Prim.Native.Nat.{ℕ, _+_, _-_, _≤_, _<_}
 use native.Mathlib.Nat.{le-antisymm, eq-zero-or-pos, lt-irrefl}
 use native.Mathlib.Omega.{arith}
@@ -13,9 +13,10 @@ use Rattle.finite.specs.Subset.{Set, set-ext}
 use Rattle.finite.specs.Sum.{on, sum, over, on-yes, on-no, on-le, on-sum, sum-ext, sum-mono, sum-zero, sum-swap, sum-tight, over-add, over-mono, over-all}
 use Rattle.plan.specs.Net.{Net, Plan, takenBy, givenBy}
 use Rattle.plan.specs.Order.{Before, chain, Sound}
-use Rattle.plan.specs.Prefix.{IsPrefix, front, missing, smallest, lack, above0}
+use Rattle.plan.specs.Prefix.{IsPrefix, front, missing, leastOpening, smallest, lack, above0}
 use Rattle.plan.specs.Cut.{preset}
-use Rattle.theory.specs.Missing.{taken, supply, missing-bounds, missing-attained, lack-above0}
+use Rattle.theory.specs.Least.{taken, given, least-bounds, least-attained}
+use Rattle.theory.specs.Missing.{supply, missing-opening, lack-above0}
 use Rattle.theory.specs.Prefixes.{reached, front-yes, yes-front, preset-yes, yes-preset}
 use Rattle.theory.specs.Skeleton.{before-earlier}
 use Rattle.theory.specs.Smallest.{positive, smallest-is}
@@ -89,12 +90,12 @@ module _ (N : Net) (P : Plan) (p : ℕ) (S : Sound P) (y : ℕ → ℕ → ℕ) 
     into-from = sum-mono (P .events) _ _ comes-from
 
     -- No done set and its front take more than all the shares and what the done set gives.
-    pub duality : taken N P p D ≤ sum (P .events) share + over (P .events) D (givenBy N P p)
+    pub duality : taken N P p D ≤ sum (P .events) share + given N P p D
     unfolding taken
     duality = omega (arith, taken-into (reached P D), into-from, from-given D, over-all (P .events) (reached P D) share)
 
     -- where all of that is used up, the done set and the events reached are closed
-    module _ (full : sum (P .events) share + over (P .events) D (givenBy N P p) ≤ taken N P p D) where
+    module _ (full : sum (P .events) share + given N P p D ≤ taken N P p D) where
       shares-in : (w : ℕ) → w < P .events → on (reached P D w) (share w) ≡ share w
       unfolding taken over
       shares-in =
@@ -127,10 +128,12 @@ module _ (N : Net) (P : Plan) (p : ℕ) (S : Sound P) (y : ℕ → ℕ → ℕ) 
           in-it true x l e = tt
           in-it false x l e = absurd (lt-irrefl 0 (subst (λ (z : ℕ). 0 < z) (sym e) l))
 
-  -- No more is missing than the shares come to above the opening count.
+  -- The shares come to no less than the least opening count, so no more is missing than what they come to above the opening count.
+  pub least-within : leastOpening N P p ≤ sum (P .events) share
+  least-within = let w = least-attained N P p S in omega (arith, w .2, duality (w .0) (w .1))
+
   pub missing-within : missing N P p ≤ sum (P .events) share - N .opening p
-  unfolding supply
-  missing-within = let w = missing-attained N P p S in omega (arith, w .2, duality (w .0) (w .1))
+  missing-within = omega (arith, least-within, missing-opening N P p)
 
   module _ (U D : Set) (s : Settled P y free share U D) where
     -- the givers seen are a done set, and the takers seen are in it or in its front
@@ -184,7 +187,7 @@ module _ (N : Net) (P : Plan) (p : ℕ) (S : Sound P) (y : ℕ → ℕ → ℕ) 
             (eq-zero-or-pos (y u w))
 
     -- the done set seen asks for all the shares
-    seen-full : sum (P .events) share + over (P .events) D (givenBy N P p) ≤ taken N P p D
+    seen-full : sum (P .events) share + given N P p D ≤ taken N P p D
     unfolding taken over into
     seen-full =
         omega (
@@ -195,10 +198,12 @@ module _ (N : Net) (P : Plan) (p : ℕ) (S : Sound P) (y : ℕ → ℕ → ℕ) 
           over-mono (P .events) U (reached P D) (takenBy N P p) (λ w l t. seen-reached w t),
         )
 
-    -- The missing count is what the shares come to above the opening count.
+    -- The shares come to the least opening count, and the missing count is what they come to above the opening count.
+    pub settled-least : leastOpening N P p ≡ sum (P .events) share
+    settled-least = omega (arith, least-within, least-bounds N P p S D seen-prefix, seen-full)
+
     pub settled-missing : missing N P p ≡ sum (P .events) share - N .opening p
-    unfolding supply
-    settled-missing = le-antisymm missing-within (omega (arith, missing-bounds N P p S D seen-prefix, seen-full))
+    settled-missing = omega (arith, settled-least, missing-opening N P p)
 
     -- Where something is missing, the givers seen are the smallest done set of the greatest lack.
     pub settled-smallest : 0 < missing N P p → smallest N P p ≡ D
@@ -209,5 +214,5 @@ module _ (N : Net) (P : Plan) (p : ℕ) (S : Sound P) (y : ℕ → ℕ → ℕ) 
         set-ext
         m
         D
-        (λ v t. z .least D seen-prefix (positive (lack N P p D) (missing N P p) (omega (arith, lack-above0 N P p D, missing-bounds N P p S D seen-prefix, seen-full, settled-missing)) short) v t)
+        (λ v t. z .least D seen-prefix (positive (lack N P p D) (missing N P p) (omega (arith, lack-above0 N P p D, least-bounds N P p S D seen-prefix, seen-full, settled-least, settled-missing)) short) v t)
         (λ v t. s .generated (reached P m) m (tight-closed m (z .prefixed) (omega (arith, settled-missing, lack-above0 N P p m, ap above0 (z .lacks)))) v t)

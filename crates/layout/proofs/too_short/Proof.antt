@@ -4,8 +4,5 @@ use Rattle.layout.proofs.Table.{short-is}
 use Rattle.layout.proofs.too_short.Statement.{statement}
 use Rattle.layout.proofs.too_short.Tie as tie
 
-returns : tie.Need-returns
-returns c = short-is (now (c .args .s))
-
 pub too-short-spec : {M : Type 1} → statement M
-too-short-spec = tie.close (tie.spec returns)
+too-short-spec = tie.close (tie.spec (λ c. short-is (now (c .args .s))))

@@ -1,4 +1,4 @@
--- `marks::join` meets its contract. The invariant: the first k words are joined.
+-- The invariant: the first k words of the row `from` are united into the row `into`.
 use Prim.Native.Nat.{_≤_, _-_}
 use native.Mathlib.Omega.{arith}
 use borrow.Author.Needs.{needs}
@@ -13,54 +13,15 @@ abbrev μ-loop : tie.MeasureT-loop
 μ-loop rows₀ from into k₀ rows k = 8 - k
 
 loop-holds : tie.Need-loop-holds Inv-loop μ-loop
-loop-holds c = (search needs, start (c .args .rows .now) (c .args .from) (c .args .into))
-
-mul-rows : tie.Need-mul-rows Inv-loop μ-loop
-mul-rows c = search needs
-
-add-rows : tie.Need-add-rows Inv-loop μ-loop
-add-rows c = search needs
-
-mul-rows-2 : tie.Need-mul-rows-2 Inv-loop μ-loop
-mul-rows-2 c = search needs
-
-slice-read-rows : tie.Need-slice-read-rows Inv-loop μ-loop
-slice-read-rows c = search needs
-
-mul-rows-3 : tie.Need-mul-rows-3 Inv-loop μ-loop
-mul-rows-3 c = search needs
-
-add-rows-2 : tie.Need-add-rows-2 Inv-loop μ-loop
-add-rows-2 c = search needs
-
-mul-rows-4 : tie.Need-mul-rows-4 Inv-loop μ-loop
-mul-rows-4 c = search needs
-
-slice-read-rows-2 : tie.Need-slice-read-rows-2 Inv-loop μ-loop
-slice-read-rows-2 c = search needs
-
-slice-write-rows : tie.Need-slice-write-rows Inv-loop μ-loop
-slice-write-rows c = search needs
-
-add-k : tie.Need-add-k Inv-loop μ-loop
-add-k c = search needs
-
-loop-less : tie.Need-loop-less Inv-loop μ-loop
-loop-less c = search needs
+loop-holds c = (search needs, start _ _ _ _ (omega arith))
 
 loop-again : tie.Need-loop-again Inv-loop μ-loop
 loop-again c =
-    let l = c .before .before .before .loop in
-    let a = c .before .before .before .before .args in
-    (search needs, more (a .rows .now) (l .rows) (a .from) (a .into) (l .k) (c .before .before .before .before .pre .1) (omega arith) (l .inv .1))
-
-same-length : tie.Need-same-length Inv-loop μ-loop
-same-length c = c .before .loop .inv .1 .size
+    let at-loop : tie.At-loop Inv-loop μ-loop = search in
+    (search needs, more _ _ _ _ _ (omega arith) (omega arith) (at-loop .loop .inv .1))
 
 returns : tie.Need-returns Inv-loop μ-loop
-returns c =
-    let a = c .before .before .args in
-    done (a .rows .now) (c .before .loop .rows) (a .from) (a .into) (c .before .loop .k) (omega arith) (c .before .loop .inv .1)
+returns c = done _ _ _ _ _ (omega arith) (c .before .loop .inv .1)
 
 pub join-spec : {M : Type 1} → statement M
 join-spec =
@@ -69,17 +30,17 @@ join-spec =
     Inv-loop
     μ-loop
     loop-holds
-    mul-rows
-    add-rows
-    mul-rows-2
-    slice-read-rows
-    mul-rows-3
-    add-rows-2
-    mul-rows-4
-    slice-read-rows-2
-    slice-write-rows
-    add-k
-    loop-less
+    (λ c. search needs)
+    (λ c. search needs)
+    (λ c. search needs)
+    (λ c. search needs)
+    (λ c. search needs)
+    (λ c. search needs)
+    (λ c. search needs)
+    (λ c. search needs)
+    (λ c. search needs)
+    (λ c. search needs)
+    (λ c. search needs)
     loop-again
-    same-length
+    (λ c. search needs)
     returns)

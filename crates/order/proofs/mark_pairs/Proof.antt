@@ -1,103 +1,83 @@
--- Pair after pair: those so far are marked, and none of them repeats an earlier one.
-use Prim.Native.Nat.{_<_, _≤_, _-_}
+-- The invariant: the pairs so far are marked, and none of them repeats an earlier one. So the mark of the next pair says whether it does.
+use Prim.Native.Nat.{_≤_, _-_}
+use native.Mathlib.Omega.{arith}
 use mathlib.Core.Bool.{false, true≢false}
-use mathlib.Core.Path.{_≡_, sym, _∙_}
+use mathlib.Core.Path.{_≡_}
+use borrow.Author.Needs.{needs}
+use denote.Ref.{now}
 use Rattle.finite.specs.Bounded.{any}
 use Rattle.finite.specs.Search.{search-start, search-more, search-found, search-done}
-use denote.Ref.{now}
-use Rattle.sheet.specs.Faultless.{ends}
+use Rattle.marks.specs.Marks.{marked}
 use Rattle.sheet.specs.Items.{planOf}
 use Rattle.sheet.specs.Faults.{repeatAt, repeated}
 use Rattle.order.specs.Rows.{PairsMarked}
-use Rattle.order.proofs.Pairs.{start, more, all-marked, blank-size, repeat-marked}
-use borrow.Author.Needs.{needs}
-use native.Mathlib.Omega.{arith}
+use Rattle.order.proofs.Pairs.{few-ends, start, more, all-marked, repeat-marked}
 use Rattle.order.proofs.mark_pairs.Statement.{statement}
 use Rattle.order.proofs.mark_pairs.Tie as tie
 
 abbrev Inv-loop : tie.InvT-loop
-Inv-loop s places transitions events pairs succ₀ pred₀ i₀ succ pred i = (i ≤ pairs) × (any i (repeatAt s) ≡ false) × PairsMarked (planOf s) i succ pred
+Inv-loop s l succ₀ pred₀ i₀ i-end succ pred i =
+    (i ≤ l .pairs) × (any i (repeatAt s) ≡ false) × PairsMarked (planOf s) i succ pred
 
 abbrev μ-loop : tie.MeasureT-loop
-μ-loop s places transitions events pairs succ₀ pred₀ i₀ succ pred i = pairs - i
+μ-loop s l succ₀ pred₀ i₀ i-end succ pred i = l .pairs - i
+
+-- both ends of the pair are events
+within : (c : tie.After-later Inv-loop μ-loop) → (c .before .earlier .result .0 ≤ 255) × (c .later .result .0 ≤ 255)
+within c =
+    let entry : tie.Start Inv-loop μ-loop = search in
+    let at-loop : tie.At-loop Inv-loop μ-loop = search in
+    omega (arith, few-ends _ (entry .pre .0 .0) (entry .pre .1 .0) (at-loop .loop .i) (omega arith))
+
+-- the mark of the pair says whether it is a repeat
+repeats : (c : tie.After-later Inv-loop μ-loop)
+    → let at-loop = c .before .before .before in
+    marked (at-loop .loop .succ) (c .before .earlier .result .0) (c .later .result .0) ≡ repeatAt (now (at-loop .before .before .args .s)) (at-loop .loop .i)
+repeats c =
+    let at-loop : tie.At-loop Inv-loop μ-loop = search in
+    repeat-marked _ _ _ _ (at-loop .loop .inv .2) _ _ (c .before .earlier .ensures) (c .later .ensures) (omega (arith, within c))
+
+loop-again : tie.Need-loop-again Inv-loop μ-loop
+loop-again c =
+    let at-loop : tie.At-loop Inv-loop μ-loop = search in
+    let read : tie.After-later Inv-loop μ-loop = search in
+    let one : tie.After-mark Inv-loop μ-loop = search in
+    let two : tie.After-mark2 Inv-loop μ-loop = search in
+    let a = read .before .earlier .ensures in
+    let b = read .later .ensures in (
+      search needs,
+      search-more _ _ (at-loop .loop .inv .1) (cc (repeats read)),
+      more _ _ _ _ _ _ (at-loop .loop .inv .2) _ _ a b (one .mark .ensures) (two .mark2 .ensures),
+    )
 
 loop-holds : tie.Need-loop-holds Inv-loop μ-loop
 loop-holds c =
-    let blank = c .before .before .before .pre .1 .1 .1 in (search needs, search-start _, start _ _ _ (blank .0) (blank .1))
-
-earlier-requires : tie.Need-earlier-requires Inv-loop μ-loop
-earlier-requires c κs = search needs
-
-later-requires : tie.Need-later-requires Inv-loop μ-loop
-later-requires c κs = search needs
-
--- where the function starts, seen from the test of a pair
-abbrev entry : tie.After-later Inv-loop μ-loop → tie.Start Inv-loop μ-loop
-entry c = c .before .before .before .before .before .before .before
-
--- both ends of the pair are events
-within : (c : tie.After-later Inv-loop μ-loop) → (c .before .earlier .result .0 < 256) × (c .later .result .0 < 256)
-within c =
-    let named = ends _ (entry c .pre .1 .1 .0) (c .before .before .before .loop .i) (omega arith) in
-    omega (arith, named, entry c .pre .0 .limited .events)
-
--- the mark found says whether the pair is a repeat
-repeats : (c : tie.After-is-marked Inv-loop μ-loop) → c .is-marked .result ≡ repeatAt (now (entry (c .before .before) .args .s)) (c .before .before .before .before .before .loop .i)
-repeats c =
-    let a = c .before .before .before .earlier .ensures in
-    let b = c .before .before .later .ensures in
-    c .is-marked .ensures ∙ repeat-marked _ _ _ _ (c .before .before .before .before .before .loop .inv .2) _ _ a b (within (c .before .before) .1)
+    let entry : tie.Start Inv-loop μ-loop = search in
+    (search needs, search-start _, start _ _ _ (entry .pre .1 .1 .0) (entry .pre .1 .1 .1))
 
 is-marked-requires : tie.Need-is-marked-requires Inv-loop μ-loop
-is-marked-requires c κs = let l = within (c .before) in omega (arith, l)
-
-same-length : tie.Need-same-length Inv-loop μ-loop
-same-length c =
-    c .before .before .before .before .before .before .loop .inv .2 .succ-size ∙ sym (blank-size _ (entry (c .before .before .before) .pre .1 .1 .1 .0))
-
-same-length-2 : tie.Need-same-length-2 Inv-loop μ-loop
-same-length-2 c =
-    c .before .before .before .before .before .before .loop .inv .2 .pred-size ∙ sym (blank-size _ (entry (c .before .before .before) .pre .1 .1 .1 .1))
+is-marked-requires c κs = let read : tie.After-later Inv-loop μ-loop = search in omega (arith, within read)
 
 returns : tie.Need-returns Inv-loop μ-loop
 unfolding repeated
 returns c =
-    let told = search-found _ _ _ _ (entry (c .before .before .before) .pre .1 .0 .3) (c .before .before .before .before .before .loop-test .taken) (sym (repeats (c .before)) ∙ c .if1 .taken) in
-    (told, λ e. absurd (true≢false e))
+    let entry : tie.Start Inv-loop μ-loop = search in
+    let in-loop : tie.In-loop Inv-loop μ-loop = search in
+    let read : tie.After-later Inv-loop μ-loop = search in
+    (search-found _ _ _ _ (entry .pre .0 .1 .pairs) (in-loop .loop-test .taken) (cc (repeats read)), λ e. absurd (true≢false e))
 
 mark-requires : tie.Need-mark-requires Inv-loop μ-loop
-mark-requires c κs = let l = within (c .before .before .before .before) in omega (arith, l)
+mark-requires c κs = let read : tie.After-later Inv-loop μ-loop = search in omega (arith, within read)
 
 mark-requires-2 : tie.Need-mark-requires-2 Inv-loop μ-loop
-mark-requires-2 c κs = let l = within (c .before .before .before .before .before .before .before .before) in omega (arith, l)
-
-add-i : tie.Need-add-i Inv-loop μ-loop
-add-i c = search needs
-
-loop-less : tie.Need-loop-less Inv-loop μ-loop
-loop-less c = search needs
-
-loop-again : tie.Need-loop-again Inv-loop μ-loop
-loop-again c =
-    let held = c .before .before .before .before .before .before .before .before .before .before .before .before .before .before .loop .inv in
-    let a = c .before .before .before .before .before .before .before .before .before .before .before .before .earlier .ensures in
-    let b = c .before .before .before .before .before .before .before .before .before .before .before .later .ensures in (
-      search needs,
-      search-more _ _ (held .1) (sym (repeats (c .before .before .before .before .before .before .before .before .before)) ∙ c .before .before .before .before .before .before .before .before .if1 .left),
-      more _ _ _ _ _ _ (held .2) _ _ a b (c .before .before .before .before .before .before .mark .ensures) (c .before .before .mark2 .ensures),
-    )
-
-same-length-3 : tie.Need-same-length-3 Inv-loop μ-loop
-same-length-3 c = c .before .loop .inv .2 .succ-size ∙ sym (blank-size _ (c .before .before .before .before .before .pre .1 .1 .1 .0))
-
-same-length-4 : tie.Need-same-length-4 Inv-loop μ-loop
-same-length-4 c = c .before .loop .inv .2 .pred-size ∙ sym (blank-size _ (c .before .before .before .before .before .pre .1 .1 .1 .1))
+mark-requires-2 c κs = let read : tie.After-later Inv-loop μ-loop = search in omega (arith, within read)
 
 returns-2 : tie.Need-returns-2 Inv-loop μ-loop
 unfolding repeated
 returns-2 c =
+    let entry : tie.Start Inv-loop μ-loop = search in
     let held = c .before .loop .inv in (
-      search-done _ _ _ _ (c .before .before .before .before .before .pre .1 .0 .3) (held .0) (c .loop-test .left) (held .1),
+      search-done _ _ _ _ (entry .pre .0 .1 .pairs) (held .0) (c .loop-test .left) (held .1),
       λ e. all-marked _ _ _ _ _ (held .2) (omega arith),
     )
 
@@ -108,17 +88,13 @@ mark-pairs-spec =
     Inv-loop
     μ-loop
     loop-holds
-    earlier-requires
-    later-requires
+    (λ c κs. search needs)
+    (λ c κs. search needs)
     is-marked-requires
-    same-length
-    same-length-2
     returns
     mark-requires
     mark-requires-2
-    add-i
-    loop-less
+    (λ c. search needs)
+    (λ c. search needs)
     loop-again
-    same-length-3
-    same-length-4
     returns-2)

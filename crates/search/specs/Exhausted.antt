@@ -5,15 +5,16 @@ use mathlib.Core.List.{List}
 use lib.Dec.{T}
 use lib.ListN.{getD}
 use Rattle.finite.specs.Subset.{Set}
+use Rattle.ids.specs.Limits.{mostEvents}
 use Rattle.marks.specs.Marks.{marked}
 
 -- Takers and givers are numbers below n.
 pub record Narrow (pred fed : List ℕ) (n : ℕ) : Type 0 where
-  pub back : (w u : ℕ) → w < n → u < 256 → T (marked pred w u) → u < n
-  pub onward : (u w : ℕ) → u < n → w < 256 → T (marked fed u w) → w < n
+  pub back : (w u : ℕ) → w < n → u < mostEvents → T (marked pred w u) → u < n
+  pub onward : (u w : ℕ) → u < n → w < mostEvents → T (marked fed u w) → w < n
 
--- Takers W and givers E that a search may not leave.
-pub record Closed (pred fed share : List ℕ) (n : ℕ) (W E : Set) : Type 0 where
+-- Takers W and givers E at which a search may stop: no step leads out of them.
+pub record Exhausted (pred fed share : List ℕ) (n : ℕ) (W E : Set) : Type 0 where
   pub roots : (w : ℕ) → w < n → 0 < getD share w 0 → T (W w)
   pub back : (w u : ℕ) → w < n → u < n → T (W w) → T (marked pred w u) → T (E u)
   pub onward : (u w : ℕ) → u < n → w < n → T (E u) → T (marked fed u w) → T (W w)
