@@ -30,6 +30,9 @@ runsRoom = 5
 abbrev pub refusedRoom : ℕ
 refusedRoom = 19
 
--- the whole listing
+-- the lines that tell counts, and the whole listing
+abbrev pub countsRoom : ℕ
+countsRoom = planRoom + placesRoom + totalsRoom
+
 abbrev pub listingRoom : ℕ
-listingRoom = planRoom + placesRoom + totalsRoom + firstRoom
+listingRoom = countsRoom + firstRoom
