@@ -47,3 +47,10 @@ module _ (s : List ℕ) (p : ℕ) where
   unfolding lostBy
   lost-more v t taken sum label takes so-far =
       omega (arith, sum-more v (λ w. takesAt s (labelAt s w) p), takes ∙ ap (λ (x : ℕ). takesAt s x p) label, so-far)
+
+  -- once all events are passed
+  pub gained-all : (v sum : ℕ) → v ≡ eventsOf s → sum ≡ gainedBy s p v → sum ≡ gainedAt s p
+  gained-all v sum all so-far = rw all at so-far
+
+  pub lost-all : (v sum : ℕ) → v ≡ eventsOf s → sum ≡ lostBy s p v → sum ≡ lostAt s p
+  lost-all v sum all so-far = rw all at so-far

@@ -1,11 +1,13 @@
 // What the listing counts besides what is missing: the free count of a plan, and the two sides of a place's end count.
 ghost use Prim.Native.Nat.{_+_, _*_, _<_, _≤_};
 ghost use mathlib.Core.Path.{_≡_};
-ghost use Rattle.sheet.specs.Table.{placesOf, transitionsOf, eventsOf};
+ghost use Rattle.ids.specs.Limits.{mostEvents};
 ghost use Rattle.sheet.specs.Faultless.{Faultless};
+ghost use Rattle.layout.specs.Layout.{LayoutOf};
 ghost use Rattle.counts.specs.Ends.{gainedAt, lostAt};
 use ids::Event;
 use ids::Place;
+use layout::Layout;
 use lookup::gives;
 use lookup::label;
 use lookup::opening;
@@ -13,7 +15,7 @@ use lookup::takes;
 
 // The free count of a plan without faults: half of all ordered pairs of two events, less the given pairs.
 pub fn free_count(events: usize, pairs: usize) -> u32
-    requires { ⌜ (events ≤ 256) × (2 * pairs + events ≤ events * events) ⌝ }
+    requires { ⌜ (events ≤ mostEvents) × (2 * pairs + events ≤ events * events) ⌝ }
     ensures { λ r. ⌜ 2 * (r + pairs) + events ≡ events * events ⌝ }
 {
     let both_ways = events * events - events;
@@ -21,31 +23,31 @@ pub fn free_count(events: usize, pairs: usize) -> u32
 }
 
 // The opening count of a place and what all events give to it.
-pub fn gained(s: &[u8], places: usize, transitions: usize, events: usize, p: Place) -> u32
+pub fn gained(s: &[u8], l: Layout, p: Place) -> u32
     requires { ⌜ Faultless (now s) ⌝ }
-    requires { ⌜ (places ≡ placesOf (now s)) × (transitions ≡ transitionsOf (now s)) × (events ≡ eventsOf (now s)) ⌝ }
-    requires { ⌜ p .0 < places ⌝ }
+    requires { ⌜ LayoutOf (now s) l ⌝ }
+    requires { ⌜ p .0 < l .places ⌝ }
     ensures { λ r. ⌜ r ≡ gainedAt (now (s .entry)) (p .0) ⌝ }
 {
-    let mut sum = opening(s, p);
-    for v in 0..events {
-        let t = label(s, places, transitions, Event(v));
-        sum += gives(s, places, t, p);
+    let mut sum = opening(s, l, p);
+    for v in 0..l.events {
+        let t = label(s, l, Event(v));
+        sum += gives(s, l, t, p);
     }
     sum
 }
 
 // What all events take from a place.
-pub fn lost(s: &[u8], places: usize, transitions: usize, events: usize, p: Place) -> u32
+pub fn lost(s: &[u8], l: Layout, p: Place) -> u32
     requires { ⌜ Faultless (now s) ⌝ }
-    requires { ⌜ (places ≡ placesOf (now s)) × (transitions ≡ transitionsOf (now s)) × (events ≡ eventsOf (now s)) ⌝ }
-    requires { ⌜ p .0 < places ⌝ }
+    requires { ⌜ LayoutOf (now s) l ⌝ }
+    requires { ⌜ p .0 < l .places ⌝ }
     ensures { λ r. ⌜ r ≡ lostAt (now (s .entry)) (p .0) ⌝ }
 {
     let mut sum: u32 = 0;
-    for v in 0..events {
-        let t = label(s, places, transitions, Event(v));
-        sum += takes(s, places, t, p);
+    for v in 0..l.events {
+        let t = label(s, l, Event(v));
+        sum += takes(s, l, t, p);
     }
     sum
 }

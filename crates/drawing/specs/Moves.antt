@@ -37,7 +37,7 @@ moved-then n pred r s t m k =
     record {
       size = k .size ∙ m .size;
       flows = k .flows;
-      kept = kept-then n r s t (m .kept) (k .kept);
+      kept = kept-then (m .kept) (k .kept);
       lacks = le-trans (k .lacks) (m .lacks);
     }
 

@@ -15,48 +15,45 @@ use Rattle.tokenflow.specs.Flowing.{Flowing, kept-then, kept-back, drawn-keeps,
 use Rattle.drawing.specs.Moves.{moved-none}
 use Rattle.exchange.specs.Exchange.{Exchanged}
 
-pub exchanged-none : (n : ℕ) (pred : List ℕ) (r : Rows) (u w v : ℕ) → Flowing n pred r → min (getD (r .free) u 0) (getD (r .amount) (v * 256 + w) 0) ≡ 0 → Exchanged n pred r r u w v 0
-exchanged-none n pred r u w v f e =
+pub exchanged-none : {n : ℕ} {pred : List ℕ} {r : Rows} {u w v : ℕ} → Flowing n pred r → min (getD (r .free) u 0) (getD (r .amount) (v * 256 + w) 0) ≡ 0
+    → Exchanged n pred r r u w v 0
+exchanged-none f e =
     record {
       most = sym e;
-      moved = moved-none n pred r f;
+      moved = moved-none _ _ _ f;
       same = refl;
       freed = λ l. absurd (omega arith);
       shares = λ b. refl;
       others = λ a b l ne t. t;
     }
 
-module _ (n : ℕ) (pred : List ℕ) (r m : Rows) (u w v k : ℕ) (f : Flowing n pred r) (lu : u < n) (lw : w < n) (lv : v < n) (back : Drawn m r v w k) (exact : Exact (m .amount) (m .fed)) where
-  pub middle : Flowing n pred m
-  middle = given-back-flows n m r v w k back pred f lv lw exact
+-- v has given back k of the tokens that it fed to w.
+module _ {n : ℕ} {pred : List ℕ} {r m : Rows} {u w v k : ℕ} (f : Flowing n pred r) (lu : u < n) (lw : w < n) (lv : v < n)
+    (exact : Exact (r .amount) (r .fed) → Exact (m .amount) (m .fed)) (back : Drawn m r v w k) where
+  middle : Flowing n pred m
+  middle = given-back-flows back f lv lw (exact (f .exact))
 
-  -- u may feed w with what v gave back
+  -- u may feed w with them
   pub may : k ≤ getD (r .free) u 0 → MayDraw m u w k
   may h =
       may-draw
-      n
-      pred
-      m
       middle
-      u
-      w
-      k
       lu
       lw
       (omega (arith, back .spent .less u))
       (omega (arith, back .covered .less w, on-yes (eqb w w) k (yes-eqb {a = w} {b = w} refl)))
 
-  pub exchanged-some : (r′ : Rows) → Drawn m r′ u w k → T (marked pred w u) → ¬ (k ≡ 0) → k ≡ min (getD (r .free) u 0) (getD (r .amount) (v * 256 + w) 0) → Exchanged n pred r r′ u w v k
-  exchanged-some r′ d before some most =
-      let pos : 0 < k = omega arith in
-      let lackedBack = drawn-lacking n m r v w k (f .events) back lw in
-      let lacked = drawn-lacking n m r′ u w k (f .events) d lw in
+  pub exchanged-some : {r′ : Rows} → Drawn m r′ u w k → T (marked pred w u) → ¬ (k ≡ 0) → k ≡ min (getD (r .free) u 0) (getD (r .amount) (v * 256 + w) 0)
+      → Exchanged n pred r r′ u w v k
+  exchanged-some {r′} d before some most =
+      let lackedBack = drawn-lacking (f .events) back lw in
+      let lacked = drawn-lacking (f .events) d lw in
       record {
         most = most;
         moved = record {
           size = d .raised .size ∙ sym (back .raised .size);
-          flows = drawn-flows n m r′ u w k d pred middle pos lu lw before;
-          kept = kept-then n r m r′ (kept-back n m r (drawn-keeps n m r v w k back (f .events) lv lw)) (drawn-keeps n m r′ u w k d (f .events) lu lw);
+          flows = drawn-flows d middle (omega arith) lu lw before;
+          kept = kept-then (kept-back (drawn-keeps (f .events) back lv lw)) (drawn-keeps (f .events) d lu lw);
           lacks = omega (arith, lackedBack, lacked);
         };
         same = omega (arith, lackedBack, lacked);

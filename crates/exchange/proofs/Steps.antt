@@ -13,7 +13,8 @@ use Rattle.search.specs.Trail.{_!_, Takers, Givers, takersOf, giversOf, FedBy, 
 use Rattle.exchange.specs.Exchange.{Exchanged}
 use Rattle.exchange.specs.Walk.{trailRows, IsReady, TakerPlace, NextGiver}
 
-module _ {n : ℕ} {pred queue origin via : List ℕ} {r : Rows} {u : ℕ} {row : List ℕ} {tail : ℕ} {met : List ℕ} (h : IsReady n pred (trailRows queue origin via) r u row tail met) where
+module _ {n : ℕ} {pred queue origin via : List ℕ} {r : Rows} {u : ℕ} {row : List ℕ} {tail : ℕ} {met : List ℕ}
+    (h : IsReady n pred (trailRows queue origin via) r u row tail met) where
   t : Takers
   t = takersOf row queue origin tail
 
@@ -42,7 +43,8 @@ module _ {n : ℕ} {pred queue origin via : List ℕ} {r : Rows} {u : ℕ} {row 
         record { here = refl; names = h .0 .givers (origin ! at) (fed-there .giver); earlier = fed-there .earlier; feeds = fed-there .feeds }
 
     -- after an exchange there, the origin is ready
-    origin-ready : (r′ : Rows) (k : ℕ) → Flowing n pred r → Exchanged n pred r r′ u (queue ! at) (origin ! at) k → IsReady n pred (trailRows queue origin via) r′ (origin ! at) row tail met
+    origin-ready : (r′ : Rows) (k : ℕ) → Flowing n pred r → Exchanged n pred r r′ u (queue ! at) (origin ! at) k
+        → IsReady n pred (trailRows queue origin via) r′ (origin ! at) row tail met
     unfolding t g fedBy
     origin-ready r′ k f x =
         let w : ℕ = queue ! at in
@@ -59,11 +61,14 @@ module _ {n : ℕ} {pred queue origin via : List ℕ} {r : Rows} {u : ℕ} {row 
                 let low : i < at = omega (arith, o .earlier) in
                 ⊎-elim
                 (λ s. inl (omega (arith, x .shares (queue ! i))))
-                (λ b. inr (record { giver = b .giver; feeds = x .others (origin ! i) (queue ! i) (omega (arith, h .0 .takers i (omega arith), f .events)) (λ same. h .0 .once i at low placed same) (b .feeds); earlier = b .earlier }))
+                (λ b.
+                let taker : queue ! i < 256 = omega (arith, h .0 .takers i (omega arith), f .events) in
+                inr (record { giver = b .giver; feeds = x .others (origin ! i) (queue ! i) taker (h .0 .once i at low placed) (b .feeds); earlier = b .earlier }))
                 (h .1 .reason i (omega arith));
           },
         )
 
-    pub next-ready : (v : ℕ) → v ≡ origin ! at → (r′ : Rows) (k : ℕ) → Flowing n pred r → Exchanged n pred r r′ u (queue ! at) v k → IsReady n pred (trailRows queue origin via) r′ v row tail met
+    pub next-ready : (v : ℕ) → v ≡ origin ! at → (r′ : Rows) (k : ℕ) → Flowing n pred r → Exchanged n pred r r′ u (queue ! at) v k
+        → IsReady n pred (trailRows queue origin via) r′ v row tail met
     next-ready v e r′ k f =
         subst (λ (z : ℕ). Exchanged n pred r r′ u (queue ! at) z k → IsReady n pred (trailRows queue origin via) r′ z row tail met) (sym e) (origin-ready r′ k f)

@@ -115,6 +115,15 @@ pub fn mark_givers(
     }
 }
 
+// The row of the givers of level 0 with tokens free, which stands first.
+pub fn lowest(sets: &[u32; SETS]) -> [u32; WORDS] {
+    let mut row = [0u32; WORDS];
+    for k in 0..WORDS {
+        row[k] = sets[k];
+    }
+    row
+}
+
 // Marks the taker at a place of the queue if a giver of a level with tokens free is before it.
 fn mark_taker(
     pred: &[u32; ROWS],

@@ -16,13 +16,13 @@ use Rattle.marks.specs.Marks.{marked, MarkAdded, MarkRemoved}
 use Rattle.tokenflow.specs.Rows.{fedBy, Exact, Raised, Lowered}
 
 -- the number counts where the mark is set, and only there
-pub counted : (amount fed : List ℕ) (u w : ℕ) → T (marked fed u w) → fedBy amount fed u w ≡ getD amount (u * 256 + w) 0
+pub fed-marked : (amount fed : List ℕ) (u w : ℕ) → T (marked fed u w) → fedBy amount fed u w ≡ getD amount (u * 256 + w) 0
 unfolding fedBy
-counted amount fed u w = on-yes (marked fed u w) (getD amount (u * 256 + w) 0)
+fed-marked amount fed u w = on-yes (marked fed u w) (getD amount (u * 256 + w) 0)
 
-pub uncounted : (amount fed : List ℕ) (u w : ℕ) → ¬ T (marked fed u w) → fedBy amount fed u w ≡ 0
+fed-unmarked : (amount fed : List ℕ) (u w : ℕ) → ¬ T (marked fed u w) → fedBy amount fed u w ≡ 0
 unfolding fedBy
-uncounted amount fed u w = on-no (marked fed u w) (getD amount (u * 256 + w) 0)
+fed-unmarked amount fed u w = on-no (marked fed u w) (getD amount (u * 256 + w) 0)
 
 -- (a, b) isn't (u, w): their numbers stand at other places of the row, and nothing is added for (a, b)
 record Elsewhere (u w a b : ℕ) : Type 0 where
@@ -54,15 +54,16 @@ module _ (amount fed amount′ fed′ : List ℕ) (u w k : ℕ) (hw : w < 256) (
   here : getD amount′ (u * 256 + w) 0 ≡ fedBy amount fed u w + k → fedBy amount′ fed′ u w ≡ fedBy amount fed u w + on (eqb u u) (on (eqb w w) k)
   here e =
       let m = subst T (sym (more .marks u w hw)) (yes-or-right (marked fed u w) (eqb u u && eqb w w) (yes-and (eqb u u) (eqb w w) (eqb-refl u) (eqb-refl w))) in
-      omega (arith, counted amount′ fed′ u w m, on-yes (eqb u u) (on (eqb w w) k) (eqb-refl u), on-yes (eqb w w) k (eqb-refl w))
+      omega (arith, fed-marked amount′ fed′ u w m, on-yes (eqb u u) (on (eqb w w) k) (eqb-refl u), on-yes (eqb w w) k (eqb-refl w))
 
-  else-same : (a b : ℕ) → b < 256 → Elsewhere u w a b → getD amount′ (a * 256 + b) 0 ≡ getD amount (a * 256 + b) 0 → fedBy amount′ fed′ a b ≡ fedBy amount fed a b + on (eqb u a) (on (eqb w b) k)
+  else-same : (a b : ℕ) → b < 256 → Elsewhere u w a b → getD amount′ (a * 256 + b) 0 ≡ getD amount (a * 256 + b) 0
+      → fedBy amount′ fed′ a b ≡ fedBy amount fed a b + on (eqb u a) (on (eqb w b) k)
   unfolding fedBy
   else-same a b hb e n =
       omega (arith, e .none k, ap₂ on (more .marks a b hb ∙ ap (λ (t : Bool). marked fed a b || t) (e .apart) ∙ or-false (marked fed a b)) n)
 
-  raised : length amount′ ≡ length amount → ((i : ℕ) → ¬ (i ≡ u * 256 + w) → getD amount′ i 0 ≡ getD amount i 0) → getD amount′ (u * 256 + w) 0 ≡ fedBy amount fed u w + k
-      → Raised amount fed amount′ fed′ u w k
+  raised : length amount′ ≡ length amount → ((i : ℕ) → ¬ (i ≡ u * 256 + w) → getD amount′ i 0 ≡ getD amount i 0)
+      → getD amount′ (u * 256 + w) 0 ≡ fedBy amount fed u w + k → Raised amount fed amount′ fed′ u w k
   raised size others e =
       record {
         size = size;
@@ -87,7 +88,7 @@ module _ (fed : List ℕ) (u w : ℕ) (m : T (marked fed u w)) where
       subst₂ (λ (x y : ℕ). T (marked fed x y)) (sym (eqb→eq a u (p .0))) (sym (eqb→eq b w (p .1))) m
 
   -- to add it again changes nothing
-  pub added-again : MarkAdded fed fed u w
+  added-again : MarkAdded fed fed u w
   added-again =
       record {
         size = refl;
@@ -101,7 +102,7 @@ module _ (fed : List ℕ) (u w : ℕ) (m : T (marked fed u w)) where
 
   module _ (fed′ : List ℕ) (gone : MarkRemoved fed fed′ u w) where
     -- it is what is added to the marks that are left without it
-    pub added-back : MarkAdded fed′ fed u w
+    added-back : MarkAdded fed′ fed u w
     added-back =
         record {
           size = sym (gone .size);
@@ -121,69 +122,17 @@ module _ (fed : List ℕ) (u w : ℕ) (m : T (marked fed u w)) where
               (or-yes (marked fed′ a b) (eqb a u && eqb b w) t));
         }
 
-    pub cleared : w < 256 → T (marked fed′ u w) → ⊥
+    cleared : w < 256 → T (marked fed′ u w) → ⊥
     cleared hw t =
         T-not
         (eqb u u && eqb w w)
         (and-yes (marked fed u w) (not (eqb u u && eqb w w)) (subst T (gone .marks u w hw) t) .1)
         (yes-and (eqb u u) (eqb w w) (eqb-refl u) (eqb-refl w))
 
-module _ (amount fed : List ℕ) (u w k : ℕ) (hw : w < 256) (room : u * 256 + w < length amount) where
-  -- k added to what counted there, and the mark set if it wasn't
-  pub stored : (fed′ : List ℕ) (x : ℕ) → MarkAdded fed fed′ u w → x ≡ fedBy amount fed u w + k → Raised amount fed (set amount (u * 256 + w) x) fed′ u w k
-  stored fed′ x more e =
-      raised
-      amount
-      fed
-      (set amount (u * 256 + w) x)
-      fed′
-      u
-      w
-      k
-      hw
-      more
-      (length-set amount (u * 256 + w) x)
-      (λ i ne. getD-set-other amount (u * 256 + w) i x 0 ne)
-      (getD-set-same amount (u * 256 + w) x 0 room ∙ e)
-
-  -- k taken away, more than that being there: the amounts before, seen from those after
-  pub left-some : (x : ℕ) → T (marked fed u w) → x + k ≡ getD amount (u * 256 + w) 0 → Raised (set amount (u * 256 + w) x) fed amount fed u w k
-  left-some x m e =
-      raised
-      (set amount (u * 256 + w) x)
-      fed
-      amount
-      fed
-      u
-      w
-      k
-      hw
-      (added-again fed u w m)
-      (sym (length-set amount (u * 256 + w) x))
-      (λ i ne. sym (getD-set-other amount (u * 256 + w) i x 0 ne))
-      (omega (arith, getD-set-same amount (u * 256 + w) x 0 room, counted (set amount (u * 256 + w) x) fed u w m))
-
-  -- k taken away, which was all: the mark goes
-  pub left-none : (fed′ : List ℕ) → T (marked fed u w) → MarkRemoved fed fed′ u w → getD amount (u * 256 + w) 0 ≡ k → Raised amount fed′ amount fed u w k
-  left-none fed′ m gone e =
-      raised
-      amount
-      fed′
-      amount
-      fed
-      u
-      w
-      k
-      hw
-      (added-back fed u w m fed′ gone)
-      refl
-      (λ i ne. refl)
-      (omega (arith, uncounted amount fed′ u w (cleared fed u w m fed′ gone hw)))
-
 -- Marks stay exact where k tokens are taken away, if the mark there goes with the last of them.
-pub lowered-exact : (amount fed amount′ fed′ : List ℕ) (u w k : ℕ) → u < 256 → w < 256 → Raised amount′ fed′ amount fed u w k → (T (marked fed′ u w) → k < fedBy amount fed u w)
-    → Exact amount fed → Exact amount′ fed′
-lowered-exact amount fed amount′ fed′ u w k hu hw r some x =
+lowered-exact : {amount fed amount′ fed′ : List ℕ} {u w k : ℕ} → u < 256 → w < 256 → Raised amount′ fed′ amount fed u w k
+    → (T (marked fed′ u w) → k < fedBy amount fed u w) → Exact amount fed → Exact amount′ fed′
+lowered-exact {amount′ = amount′} {fed′ = fed′} {u = u} {w = w} {k = k} hu hw r some x =
     record {
       flows = λ a b ha hb t.
           ⊎-elim
@@ -194,6 +143,39 @@ lowered-exact amount fed amount′ fed′ u w k hu hw r some x =
   where
     left : T (marked fed′ u w) → 0 < fedBy amount′ fed′ u w
     left t = omega (arith, some t, r .more u w hu hw, on-yes (eqb u u) (on (eqb w w) k) (eqb-refl u), on-yes (eqb w w) k (eqb-refl w))
+
+module _ (amount fed : List ℕ) (u w k : ℕ) (hu : u < 256) (hw : w < 256) (room : u * 256 + w < length amount) where
+  stored : (x : ℕ) (fed′ : List ℕ) → MarkAdded fed fed′ u w → x ≡ fedBy amount fed u w + k → Raised amount fed (set amount (u * 256 + w) x) fed′ u w k
+  stored x fed′ more e =
+      let i : ℕ = u * 256 + w in
+      raised _ _ _ _ _ _ _ hw more (length-set amount i x) (λ j ne. getD-set-other amount i j x 0 ne) (getD-set-same amount i x 0 room ∙ e)
+
+  -- k is added where the mark is set, or stored and the mark set
+  pub raised-known : (x : ℕ) → x ≡ getD amount (u * 256 + w) 0 + k → T (marked fed u w) → Raised amount fed (set amount (u * 256 + w) x) fed u w k
+  raised-known x e m = stored x fed (added-again fed u w m) (omega (arith, fed-marked amount fed u w m))
+
+  pub raised-new : (x : ℕ) → x ≡ k → (fed′ : List ℕ) → ¬ T (marked fed u w) → MarkAdded fed fed′ u w → Raised amount fed (set amount (u * 256 + w) x) fed′ u w k
+  raised-new x e fed′ none more = stored x fed′ more (omega (arith, fed-unmarked amount fed u w none))
+
+  module _ (m : T (marked fed u w)) where
+    -- k is taken away, and some is left: the amounts before, seen from those after
+    pub left-some : (x : ℕ) → 0 < x → x + k ≡ getD amount (u * 256 + w) 0
+        → Raised (set amount (u * 256 + w) x) fed amount fed u w k × (Exact amount fed → Exact (set amount (u * 256 + w) x) fed)
+    left-some x some e =
+        let i : ℕ = u * 256 + w in
+        let here : getD amount i 0 ≡ fedBy (set amount i x) fed u w + k = omega (arith, getD-set-same amount i x 0 room, fed-marked (set amount i x) fed u w m) in
+        let r : Raised (set amount i x) fed amount fed u w k =
+        raised _ _ _ _ _ _ _ hw (added-again fed u w m) (sym (length-set amount i x)) (λ j ne. sym (getD-set-other amount i j x 0 ne)) here in
+        (r, lowered-exact hu hw r (λ t. omega (arith, fed-marked amount fed u w m)))
+
+    -- k is taken away, which was all: the mark goes
+    pub left-none : (fed′ : List ℕ) → MarkRemoved fed fed′ u w → getD amount (u * 256 + w) 0 ≡ k
+        → Raised amount fed′ amount fed u w k × (Exact amount fed → Exact amount fed′)
+    left-none fed′ gone e =
+        let no = cleared fed u w m fed′ gone hw in
+        let r : Raised amount fed′ amount fed u w k =
+        raised _ _ _ _ _ _ _ hw (added-back fed u w m fed′ gone) refl (λ i ne. refl) (omega (arith, fed-unmarked amount fed′ u w no)) in
+        (r, lowered-exact hu hw r (λ t. absurd (no t)))
 
 -- a row with x at i, where x and k make up what stood there
 pub lowered : (row : List ℕ) (i k x : ℕ) → i < length row → x + k ≡ getD row i 0 → Lowered row (set row i x) i k
@@ -206,6 +188,6 @@ lowered row i k x l e =
           (decide (eqb i a));
     }
 
--- the same row with k more at i, seen from the larger one
-pub raised-back : (row : List ℕ) (i k : ℕ) → i < length row → Lowered (set row i (getD row i 0 + k)) row i k
-raised-back row i k l = record { less = raised-at row i k l }
+-- a row with k more at i, seen from that one
+pub raised-back : (row : List ℕ) (i k x : ℕ) → i < length row → x ≡ getD row i 0 + k → Lowered (set row i x) row i k
+raised-back row i k x l e = record { less = rw e (raised-at row i k l) }

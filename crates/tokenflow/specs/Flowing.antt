@@ -13,8 +13,8 @@ use Rattle.marks.specs.Marks.{marked}
 use Rattle.tokenflow.specs.Rows.{fedBy, Exact, Raised, Rows, Drawn, MayDraw, MayGiveBack}
 
 -- marks stay exact: the one that is set or added has tokens
-raised-exact : (amount fed amount′ fed′ : List ℕ) (u w k : ℕ) → 0 < k → Raised amount fed amount′ fed′ u w k → Exact amount fed → Exact amount′ fed′
-raised-exact amount fed amount′ fed′ u w k pos r e =
+raised-exact : {amount fed amount′ fed′ : List ℕ} {u w k : ℕ} → 0 < k → Raised amount fed amount′ fed′ u w k → Exact amount fed → Exact amount′ fed′
+raised-exact {u = u} {w = w} {k = k} pos r e =
     record {
       flows = λ a b ha hb t.
           ⊎-elim
@@ -49,17 +49,17 @@ pub record Kept (n : ℕ) (r r′ : Rows) : Type 0 where
 pub kept-none : (n : ℕ) (r : Rows) → Kept n r r
 kept-none n r = record { gives = λ u l. refl; takes = λ w l. refl }
 
-pub kept-then : (n : ℕ) (r s t : Rows) → Kept n r s → Kept n s t → Kept n r t
-kept-then n r s t k m = record { gives = λ u l. k .gives u l ∙ m .gives u l; takes = λ w l. k .takes w l ∙ m .takes w l }
+pub kept-then : {n : ℕ} {r s t : Rows} → Kept n r s → Kept n s t → Kept n r t
+kept-then k m = record { gives = λ u l. k .gives u l ∙ m .gives u l; takes = λ w l. k .takes w l ∙ m .takes w l }
 
-pub kept-back : (n : ℕ) (r s : Rows) → Kept n r s → Kept n s r
-kept-back n r s k = record { gives = λ u l. sym (k .gives u l); takes = λ w l. sym (k .takes w l) }
+pub kept-back : {n : ℕ} {r s : Rows} → Kept n r s → Kept n s r
+kept-back k = record { gives = λ u l. sym (k .gives u l); takes = λ w l. sym (k .takes w l) }
 
 -- what all takers lack
 unfoldable pub lacking : ℕ → Rows → ℕ
 lacking n r = sum n (λ w. getD (r .share) w 0)
 
-module _ (n : ℕ) (r r′ : Rows) (u w k : ℕ) (few : n ≤ mostEvents) (d : Drawn r r′ u w k) where
+module _ {n : ℕ} {r r′ : Rows} {u w k : ℕ} (few : n ≤ mostEvents) (d : Drawn r r′ u w k) where
   row-more : (a : ℕ) → a < n → w < n → sum n (λ b. fedBy (r′ .amount) (r′ .fed) a b) ≡ sum n (λ b. fedBy (r .amount) (r .fed) a b) + on (eqb u a) k
   row-more a la lw =
       sum-ext n _ _ (λ b l. d .raised .more a b (omega arith) (omega arith)) ∙ sum-row-more n u w k a (λ b. fedBy (r .amount) (r .fed) a b) lw
@@ -76,34 +76,38 @@ module _ (n : ℕ) (r r′ : Rows) (u w k : ℕ) (few : n ≤ mostEvents) (d : D
       ∙ sum-add n (λ b. getD (r′ .share) b 0) (λ b. on (eqb w b) k)
       ∙ ap (λ (z : ℕ). sum n (λ b. getD (r′ .share) b 0) + z) (sum-one n w (λ b. k) l)
 
-module _ (n : ℕ) (r r′ : Rows) (u w k : ℕ) (d : Drawn r r′ u w k) where
   -- tokens that are drawn are given and taken all the same
-  pub drawn-keeps : n ≤ mostEvents → u < n → w < n → Kept n r r′
+  pub drawn-keeps : u < n → w < n → Kept n r r′
   unfolding givenIn takenIn
-  drawn-keeps few lu lw =
+  drawn-keeps lu lw =
       record {
-        gives = λ a l. omega (arith, row-more n r r′ u w k few d a l lw, d .spent .less a);
-        takes = λ b l. omega (arith, column-more n r r′ u w k few d b l lu, d .covered .less b);
+        gives = λ a l. omega (arith, row-more a l lw, d .spent .less a);
+        takes = λ b l. omega (arith, column-more b l lu, d .covered .less b);
       }
 
+module _ {n : ℕ} {pred : List ℕ} {r r′ : Rows} {u w k : ℕ} (d : Drawn r r′ u w k) where
   -- a draw from what is before keeps a tokenflow one
-  pub drawn-flows : (pred : List ℕ) → Flowing n pred r → 0 < k → u < n → w < n → T (marked pred w u) → Flowing n pred r′
-  drawn-flows pred f pos lu lw before =
-      let same = drawn-keeps (f .events) lu lw in
+  pub drawn-flows : Flowing n pred r → 0 < k → u < n → w < n → T (marked pred w u) → Flowing n pred r′
+  drawn-flows f pos lu lw before =
+      let same = drawn-keeps (f .events) d lu lw in
       record {
         events = f .events;
         room = omega (arith, f .room, d .raised .size);
-        exact = raised-exact (r .amount) (r .fed) (r′ .amount) (r′ .fed) u w k pos (d .raised) (f .exact);
+        exact = raised-exact pos (d .raised) (f .exact);
         named = λ a b la lb t. ⊎-elim (f .named a b la lb) (λ e. (omega (arith, e .0), omega (arith, e .1))) (d .raised .added a b lb t);
-        ordered = λ a b la lb t. ⊎-elim (f .ordered a b la lb) (λ e. subst₂ (λ (x y : ℕ). T (marked pred x y)) (sym (e .1)) (sym (e .0)) before) (d .raised .added a b lb t);
+        ordered = λ a b la lb t.
+            ⊎-elim
+            (f .ordered a b la lb)
+            (λ e. subst₂ (λ (x y : ℕ). T (marked pred x y)) (sym (e .1)) (sym (e .0)) before)
+            (d .raised .added a b lb t);
         gives-fit = λ a l. omega (arith, f .gives-fit a l, same .gives a l);
         takes-fit = λ b l. omega (arith, f .takes-fit b l, same .takes b l);
       }
 
   -- and so does giving back what was drawn
-  pub given-back-flows : (pred : List ℕ) → Flowing n pred r′ → u < n → w < n → Exact (r .amount) (r .fed) → Flowing n pred r
-  given-back-flows pred f lu lw e =
-      let same = drawn-keeps (f .events) lu lw in
+  pub given-back-flows : Flowing n pred r′ → u < n → w < n → Exact (r .amount) (r .fed) → Flowing n pred r
+  given-back-flows f lu lw e =
+      let same = drawn-keeps (f .events) d lu lw in
       record {
         events = f .events;
         room = omega (arith, f .room, d .raised .size);
@@ -115,16 +119,16 @@ module _ (n : ℕ) (r r′ : Rows) (u w k : ℕ) (d : Drawn r r′ u w k) where
       }
 
 -- what may be drawn and given back in a tokenflow
-module _ (n : ℕ) (pred : List ℕ) (r : Rows) (f : Flowing n pred r) (u w k : ℕ) (lu : u < n) (lw : w < n) where
+module _ {n : ℕ} {pred : List ℕ} {r : Rows} (f : Flowing n pred r) {u w k : ℕ} (lu : u < n) (lw : w < n) where
   pub may-draw : k ≤ getD (r .free) u 0 → k ≤ getD (r .share) w 0 → MayDraw r u w k
   unfolding takenIn
   may-draw hf hs =
       record {
         giver = omega (arith, f .events);
         taker = omega (arith, f .events);
+        room = omega (arith, f .events, f .room);
         free = hf;
         lacks = hs;
-        room = omega (arith, f .events, f .room);
         fits = omega (arith, f .takes-fit w lw, sum-term n (λ a. fedBy (r .amount) (r .fed) a w) u lu);
       }
 

@@ -1,64 +1,51 @@
--- `counts::gained` meets its contract.
-use native.Mathlib.Omega.{arith}
-use borrow.Author.Needs.{needs}
+-- The invariant: the sum is the opening count and what the events so far give, at most 1,000 each.
 use Prim.Native.Nat.{_+_, _*_, _-_, _≤_}
-use mathlib.Core.Path.{_≡_, ap, _∙_}
-use denote.Ref.{now}
-use Rattle.sheet.specs.Table.{eventsOf}
-use Rattle.counts.specs.Ends.{gainedBy, gained-start, gained-more}
+use native.Mathlib.Omega.{arith}
+use mathlib.Core.Path.{_≡_, _∙_}
+use borrow.Author.Needs.{needs}
+use Rattle.counts.specs.Ends.{gainedBy, gained-start, gained-more, gained-all}
+use Rattle.counts.proofs.Weights.{named, gives-most}
 use Rattle.counts.proofs.gained.Statement.{statement}
 use Rattle.counts.proofs.gained.Tie as tie
 
 abbrev Inv-loop : tie.InvT-loop
-Inv-loop s places transitions events p sum₀ v₀ sum v = (v ≤ events) × (sum ≡ gainedBy s (p .0) v) × (sum ≤ 1000000 + 1000 * v)
+Inv-loop s l p sum₀ v₀ v-end sum v = (v ≤ l .events) × (sum ≡ gainedBy s (p .0) v) × (sum ≤ 1000000 + 1000 * v)
 
 abbrev μ-loop : tie.MeasureT-loop
-μ-loop s places transitions events p sum₀ v₀ sum v = events - v
-
-opening-requires : tie.Need-opening-requires Inv-loop μ-loop
-opening-requires c κs = search needs
+μ-loop s l p sum₀ v₀ v-end sum v = l .events - v
 
 loop-holds : tie.Need-loop-holds Inv-loop μ-loop
 loop-holds c =
-    let start = c .before .before in (
-      omega arith,
-      c .opening .ensures ∙ gained-start (now (start .args .s)) (start .args .p .0),
-      omega (arith, c .opening .ensures, start .pre .0 .openings (start .args .p .0) (omega arith)),
+    let start : tie.Start Inv-loop μ-loop = search in
+    let read : tie.After-opening Inv-loop μ-loop = search in (
+      search needs,
+      read .opening .ensures ∙ gained-start _ _,
+      omega (arith, start .pre .0 .openings (start .args .p .0) (omega arith)),
     )
-
-label-requires : tie.Need-label-requires Inv-loop μ-loop
-label-requires c κs =
-    let pre = c .before .before .before .before .pre in
-    (pre .0 .laid, ((pre .1 .0 .0, pre .1 .0 .1), omega arith))
 
 gives-requires : tie.Need-gives-requires Inv-loop μ-loop
 gives-requires c κs =
-    let pre = c .before .before .before .before .before .pre in
-    (pre .0 .laid, (pre .1 .0 .0, (omega (arith, pre .0 .labels (c .before .before .loop .v) (omega arith)), pre .1 .1)))
+    let start : tie.Start Inv-loop μ-loop = search in
+    let read : tie.After-label Inv-loop μ-loop = search in
+    let below = named _ _ (start .pre .0) (start .pre .1 .0) _ _ (omega arith) (read .label .ensures) in
+    ((start .pre .0 .laid, start .pre .1 .0), (below, start .pre .1 .1))
 
 -- at most 1,000 at each event
 weight : (c : tie.After-gives Inv-loop μ-loop) → c .gives .result ≤ 1000
 weight c =
-    let start = c .before .before .before .before .before .before in
-    let named = start .pre .0 .labels (c .before .before .before .loop .v) (omega arith) in
-    omega (arith, c .gives .ensures, start .pre .0 .gives (c .before .label .result .0) (start .args .p .0) (omega arith) (omega arith))
-
-add-sum : tie.Need-add-sum Inv-loop μ-loop
-add-sum c = omega (arith, weight c)
-
-add-v : tie.Need-add-v Inv-loop μ-loop
-add-v c = search needs
-
-loop-less : tie.Need-loop-less Inv-loop μ-loop
-loop-less c = search needs
+    let start : tie.Start Inv-loop μ-loop = search in
+    let at-loop : tie.At-loop Inv-loop μ-loop = search in
+    let read : tie.After-label Inv-loop μ-loop = search in
+    gives-most _ _ (start .pre .0) (start .pre .1 .0) (at-loop .loop .v) _ (omega arith) (read .label .ensures) _ _ (start .pre .1 .1) (c .gives .ensures)
 
 loop-again : tie.Need-loop-again Inv-loop μ-loop
-loop-again c = (omega arith, gained-more _ _ _ _ _ _ (c .before .label .ensures) (c .gives .ensures) (c .before .before .before .loop .inv .1), omega (arith, weight c))
+loop-again c =
+    let at-loop : tie.At-loop Inv-loop μ-loop = search in
+    let read : tie.After-label Inv-loop μ-loop = search in
+    (search needs, gained-more _ _ _ _ _ _ (read .label .ensures) (c .gives .ensures) (at-loop .loop .inv .1), omega (arith, weight c))
 
 returns : tie.Need-returns Inv-loop μ-loop
-returns c =
-    let all : c .before .loop .v ≡ eventsOf (now (c .before .before .before .before .args .s)) = omega arith in
-    c .before .loop .inv .1 ∙ ap (gainedBy (now (c .before .before .before .before .args .s)) (c .before .before .before .before .args .p .0)) all
+returns c = gained-all _ _ _ _ (omega arith) (c .before .loop .inv .1)
 
 pub gained-spec : {M : Type 1} → statement M
 gained-spec =
@@ -66,12 +53,12 @@ gained-spec =
     (tie.spec
     Inv-loop
     μ-loop
-    opening-requires
+    (λ c κs. search needs)
     loop-holds
-    label-requires
+    (λ c κs. search needs)
     gives-requires
-    add-sum
-    add-v
-    loop-less
+    (λ c. omega (arith, weight c))
+    (λ c. search needs)
+    (λ c. search needs)
     loop-again
     returns)

@@ -1,56 +1,45 @@
--- `counts::lost` meets its contract.
-use native.Mathlib.Omega.{arith}
-use borrow.Author.Needs.{needs}
+-- The invariant: the sum is what the events so far take, at most 1,000 each.
 use Prim.Native.Nat.{_*_, _-_, _≤_}
-use mathlib.Core.Path.{_≡_, ap, _∙_}
-use denote.Ref.{now}
-use Rattle.sheet.specs.Table.{eventsOf}
-use Rattle.counts.specs.Ends.{lostBy, lost-start, lost-more}
+use native.Mathlib.Omega.{arith}
+use mathlib.Core.Path.{_≡_}
+use borrow.Author.Needs.{needs}
+use Rattle.counts.specs.Ends.{lostBy, lost-start, lost-more, lost-all}
+use Rattle.counts.proofs.Weights.{named, takes-most}
 use Rattle.counts.proofs.lost.Statement.{statement}
 use Rattle.counts.proofs.lost.Tie as tie
 
 abbrev Inv-loop : tie.InvT-loop
-Inv-loop s places transitions events p sum₀ v₀ sum v = (v ≤ events) × (sum ≡ lostBy s (p .0) v) × (sum ≤ 1000 * v)
+Inv-loop s l p sum₀ v₀ v-end sum v = (v ≤ l .events) × (sum ≡ lostBy s (p .0) v) × (sum ≤ 1000 * v)
 
 abbrev μ-loop : tie.MeasureT-loop
-μ-loop s places transitions events p sum₀ v₀ sum v = events - v
+μ-loop s l p sum₀ v₀ v-end sum v = l .events - v
 
 loop-holds : tie.Need-loop-holds Inv-loop μ-loop
-loop-holds c = (omega arith, lost-start (now (c .before .args .s)) (c .before .args .p .0), omega arith)
-
-label-requires : tie.Need-label-requires Inv-loop μ-loop
-label-requires c κs =
-    let pre = c .before .before .before .pre in
-    (pre .0 .laid, ((pre .1 .0 .0, pre .1 .0 .1), omega arith))
+loop-holds c = (search needs, lost-start _ _, search needs)
 
 takes-requires : tie.Need-takes-requires Inv-loop μ-loop
 takes-requires c κs =
-    let pre = c .before .before .before .before .pre in
-    (pre .0 .laid, (pre .1 .0 .0, (omega (arith, pre .0 .labels (c .before .before .loop .v) (omega arith)), pre .1 .1)))
+    let start : tie.Start Inv-loop μ-loop = search in
+    let read : tie.After-label Inv-loop μ-loop = search in
+    let below = named _ _ (start .pre .0) (start .pre .1 .0) _ _ (omega arith) (read .label .ensures) in
+    ((start .pre .0 .laid, start .pre .1 .0), (below, start .pre .1 .1))
 
 -- at most 1,000 at each event
 weight : (c : tie.After-takes Inv-loop μ-loop) → c .takes .result ≤ 1000
 weight c =
-    let start = c .before .before .before .before .before in
-    let named = start .pre .0 .labels (c .before .before .before .loop .v) (omega arith) in
-    omega (arith, c .takes .ensures, start .pre .0 .takes (c .before .label .result .0) (start .args .p .0) (omega arith) (omega arith))
-
-add-sum : tie.Need-add-sum Inv-loop μ-loop
-add-sum c = omega (arith, weight c)
-
-add-v : tie.Need-add-v Inv-loop μ-loop
-add-v c = search needs
-
-loop-less : tie.Need-loop-less Inv-loop μ-loop
-loop-less c = search needs
+    let start : tie.Start Inv-loop μ-loop = search in
+    let at-loop : tie.At-loop Inv-loop μ-loop = search in
+    let read : tie.After-label Inv-loop μ-loop = search in
+    takes-most _ _ (start .pre .0) (start .pre .1 .0) (at-loop .loop .v) _ (omega arith) (read .label .ensures) _ _ (start .pre .1 .1) (c .takes .ensures)
 
 loop-again : tie.Need-loop-again Inv-loop μ-loop
-loop-again c = (omega arith, lost-more _ _ _ _ _ _ (c .before .label .ensures) (c .takes .ensures) (c .before .before .before .loop .inv .1), omega (arith, weight c))
+loop-again c =
+    let at-loop : tie.At-loop Inv-loop μ-loop = search in
+    let read : tie.After-label Inv-loop μ-loop = search in
+    (search needs, lost-more _ _ _ _ _ _ (read .label .ensures) (c .takes .ensures) (at-loop .loop .inv .1), omega (arith, weight c))
 
 returns : tie.Need-returns Inv-loop μ-loop
-returns c =
-    let all : c .before .loop .v ≡ eventsOf (now (c .before .before .before .args .s)) = omega arith in
-    c .before .loop .inv .1 ∙ ap (lostBy (now (c .before .before .before .args .s)) (c .before .before .before .args .p .0)) all
+returns c = lost-all _ _ _ _ (omega arith) (c .before .loop .inv .1)
 
 pub lost-spec : {M : Type 1} → statement M
 lost-spec =
@@ -59,10 +48,10 @@ lost-spec =
     Inv-loop
     μ-loop
     loop-holds
-    label-requires
+    (λ c κs. search needs)
     takes-requires
-    add-sum
-    add-v
-    loop-less
+    (λ c. omega (arith, weight c))
+    (λ c. search needs)
+    (λ c. search needs)
     loop-again
     returns)

@@ -1,70 +1,51 @@
--- Faults 1 to 4 first, and then the rest.
+-- Faults 1 to 4 decide, or are absent: then the table is there, its layout is the sheet's, and the rest decide.
 use mathlib.Core.Path.{_≡_, sym, _∙_}
+use borrow.Author.Needs.{needs}
 use denote.Ref.{now}
 use Rattle.sheet.specs.Faults.{layoutFaults, firstFault}
-use Rattle.sheet.specs.Laid.{Laid}
 use Rattle.sheet.specs.Faultless.{layout-decides, layout-laid, content-decides}
-use native.Mathlib.Omega.{arith}
-use borrow.Author.Needs.{needs}
+use Rattle.layout.specs.Layout.{within}
 use Rattle.fault.proofs.examine.Statement.{statement}
 use Rattle.fault.proofs.examine.Tie as tie
 
-absent : (c : tie.Else1) → firstFault layoutFaults (now (c .before .before .before .before .before .args .s)) ≡ 0
+absent : (c : tie.Else1) → let start : tie.Start = search in firstFault layoutFaults (now (start .args .s)) ≡ 0
 absent c = sym (c .before .layout-fault .ensures) ∙ c .if1 .left
-
-known : (c : tie.Else1) → Laid (now (c .before .before .before .before .before .args .s))
-known c = layout-laid _ (absent c)
-
-layout-fault-requires : tie.Need-layout-fault-requires
-layout-fault-requires c κs = search needs
 
 returns : tie.Need-returns
 returns c =
-    let told = c .before .layout-fault .ensures in
-    (told ∙ sym (layout-decides _ (λ z. c .if1 .taken (told ∙ z))), λ z. absurd (c .if1 .taken z))
+    let told : tie.After-layout-fault = search in
+    let fault : tie.Then1 = search in
+    let none : tie.After-no-layout = search in
+    let is = told .layout-fault .ensures in
+    (is ∙ sym (layout-decides _ (λ z. fault .if1 .taken (is ∙ z))), (none .no-layout .ensures, λ z. absurd (fault .if1 .taken z)))
 
-entry-count-requires : tie.Need-entry-count-requires
-entry-count-requires c κs = (omega arith, known c .limited .table)
-
-entry-count-requires-2 : tie.Need-entry-count-requires-2
-entry-count-requires-2 c κs = (omega arith, known (c .before) .limited .table)
-
-entry-count-requires-3 : tie.Need-entry-count-requires-3
-entry-count-requires-3 c κs = (omega arith, known (c .before .before) .limited .table)
-
-entry-count-requires-4 : tie.Need-entry-count-requires-4
-entry-count-requires-4 c κs = (omega arith, known (c .before .before .before) .limited .table)
+layout-of-requires : tie.Need-layout-of-requires
+layout-of-requires c κs = layout-laid _ (absent c) .limited .table
 
 content-fault-requires : tie.Need-content-fault-requires
 content-fault-requires c κs =
-    let places = c .before .before .before .before .before .entry-count .ensures .0 in
-    let transitions = c .before .before .before .before .entry-count2 .ensures .0 in
-    let events = c .before .before .before .entry-count3 .ensures .0 in
-    let pairs = c .before .before .entry-count4 .ensures .0 in
-    (known (c .before .before .before .before .before .before), ((places, transitions, events, pairs), c .before .before .before .before .before .before .before .before .before .before .before .pre))
-
-same-length : tie.Need-same-length
-same-length c = search needs
-
-same-length-2 : tie.Need-same-length-2
-same-length-2 c = search needs
+    let start : tie.Start = search in
+    let passed : tie.Else1 = search in
+    let read : tie.After-layout-of = search in
+    ((layout-laid _ (absent passed), read .layout-of .ensures), start .pre)
 
 returns-2 : tie.Need-returns-2
 returns-2 c =
-    let rest = c .before .before .before .before .content-fault .ensures in
-    (rest .0 ∙ sym (content-decides _ (absent (c .before .before .before .before .before .before .before .before .before .before .before))), rest .1)
+    let passed : tie.Else1 = search in
+    let read : tie.After-layout-of = search in
+    let rest : tie.After-content-fault = search in
+    let is = read .layout-of .ensures in (
+      rest .content-fault .ensures .0 ∙ sym (content-decides _ (absent passed)),
+      (within _ _ (layout-laid _ (absent passed) .limited) is, λ z. (is, rest .content-fault .ensures .1 z)),
+    )
 
 pub examine-spec : {M : Type 1} → statement M
 examine-spec =
     tie.close
     (tie.spec
-    layout-fault-requires
+    (λ c κs. search needs)
+    (λ c κs. search needs)
     returns
-    entry-count-requires
-    entry-count-requires-2
-    entry-count-requires-3
-    entry-count-requires-4
+    layout-of-requires
     content-fault-requires
-    same-length
-    same-length-2
     returns-2)

@@ -1,77 +1,34 @@
--- `push::pull_once` meets its contract.
-use Prim.Native.Nat.{_<_}
-use mathlib.Core.Path.{refl, subst}
-use Rattle.marks.specs.Search.{Both, Tells}
-use Rattle.tokenflow.specs.Rows.{rows}
-use Rattle.drawing.specs.Moves.{moved-none}
+-- Rests on the taker found: v is marked as feeding it, so both are events.
 use borrow.Author.Needs.{needs}
+use Rattle.marks.specs.Search.{Both}
+use Rattle.push.proofs.Told.{told-both}
 use Rattle.push.proofs.pull_once.Statement.{statement}
 use Rattle.push.proofs.pull_once.Tie as tie
 
-last-common-requires : tie.Need-last-common-requires
-last-common-requires c κs = search needs
+abbrev start : tie.After-found → tie.Start
+start c = search
 
-enum-known-taker : tie.Need-enum-known-taker
-enum-known-taker c = search needs
-
-enum-told : tie.Need-enum-told
-enum-told c = search needs
-
-same-length : tie.Need-same-length
-same-length c = refl
-
-same-length-2 : tie.Need-same-length-2
-same-length-2 c = refl
-
-returns : tie.Need-returns
-returns c = let s = c .before .before .before .before .before .before .before .before .before .before .before .before in let a = s .args in moved-none (a .n) (a .pred .now) (rows (a .amount .now) (a .fed .now) (a .free .now) (a .share .now)) (s .pre .0)
-
--- v feeds w
-there : (c : tie.After-taker) → let a = c .before .before .before .before .before .before .before .before .before .before .before .before .args in Both (a .fed .now) (a .v) (a .within .now) 0 (c .taker .given .0 .0)
-there c = let a = c .before .before .before .before .before .before .before .before .before .before .before .before .args in subst (Tells (Both (a .fed .now) (a .v) (a .within .now) 0)) (c .taker .given .1) (c .before .before .last-common .ensures)
-
-names : (c : tie.After-taker) → let a = c .before .before .before .before .before .before .before .before .before .before .before .before .args in (a .v < a .n) × (c .taker .given .0 .0 < a .n)
-names c = let s = c .before .before .before .before .before .before .before .before .before .before .before .before in s .pre .0 .named (s .args .v) (c .taker .given .0 .0) (s .pre .1 .1 .2) (there c .below) (there c .first)
+-- v feeds the taker found
+there : (c : tie.After-found) → let a = start c .args in
+    Both (a .fed .now) (a .v .0) (a .within .now) 0 (c .found .given .0 .0)
+there c = search told-both
 
 pull-by-requires : tie.Need-pull-by-requires
-pull-by-requires c κs = let s = c .before .before .before .before .before .before .before .before .before .before .before .before .before .before .before .before .before .before .before in let f = c .before .before .before .before .before .before .before in let p = s .pre .1 .1 in let e = names f in (s .pre .0, (s .pre .1 .0, ((p .0, p .1), (e .0, e .1, there f .first))))
-
-same-length-3 : tie.Need-same-length-3
-same-length-3 c = c .before .before .before .before .before .before .before .before .before .before .before .before .pull-by .kept .1 .0
-
-same-length-4 : tie.Need-same-length-4
-same-length-4 c = c .before .before .before .before .before .before .before .before .before .before .before .before .pull-by .kept .1 .1 .0
-
-same-length-5 : tie.Need-same-length-5
-same-length-5 c = c .before .before .before .before .before .before .before .before .before .before .before .before .pull-by .kept .1 .1 .1 .0
-
-same-length-6 : tie.Need-same-length-6
-same-length-6 c = c .before .before .before .before .before .before .before .before .before .before .before .before .pull-by .kept .1 .1 .1 .1 .0
-
-same-length-7 : tie.Need-same-length-7
-same-length-7 c = c .before .before .before .before .before .before .before .before .before .before .before .before .pull-by .kept .1 .1 .1 .1 .1 .0
-
-same-length-8 : tie.Need-same-length-8
-same-length-8 c = c .before .before .before .before .before .before .before .before .before .before .before .before .pull-by .kept .1 .1 .1 .1 .1 .1 .0
-
-returns-2 : tie.Need-returns-2
-returns-2 c = c .before .before .before .before .before .before .before .before .before .before .before .before .pull-by .ensures
+pull-by-requires c κs =
+    let found : tie.After-found = search in
+    let pre = start found .pre in
+    let t = there found in
+    let events = pre .0 .named _ _ (pre .1 .1 .0) (t .below) (t .first) in
+    (search, (search, ((search, search, search), search)))
 
 pub pull-once-spec : {M : Type 1} → statement M
 pull-once-spec =
     tie.close
     (tie.spec
-    last-common-requires
-    enum-known-taker
-    enum-told
-    same-length
-    same-length-2
-    returns
+    (λ c κs. search needs)
+    (λ c. search needs)
+    (λ c. search needs)
+    (λ c. search needs)
     pull-by-requires
-    same-length-3
-    same-length-4
-    same-length-5
-    same-length-6
-    same-length-7
-    same-length-8
-    returns-2)
+    (λ c. search needs)
+    (λ c. search needs))

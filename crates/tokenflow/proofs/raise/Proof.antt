@@ -1,35 +1,32 @@
--- Rests on what a stored number and an added mark do to the amounts (`Amounts.stored`). Where the mark is set the number counts already, else nothing does.
+-- Rests on what a stored number and an added mark do to the amounts: where the mark is set the number counts already (`Amounts.raised-known`), else
+-- nothing does (`raised-new`).
 use native.Mathlib.Omega.{arith}
 use mathlib.Core.Path.{sym, subst, _∙_}
 use borrow.Author.Needs.{needs}
 use lib.Dec.{T}
 use Rattle.marks.specs.Marks.{marked}
-use Rattle.tokenflow.proofs.Amounts.{counted, uncounted, added-again, stored}
+use Rattle.tokenflow.proofs.Amounts.{fed-marked, raised-known, raised-new}
 use Rattle.tokenflow.proofs.raise.Statement.{statement}
 use Rattle.tokenflow.proofs.raise.Tie as tie
 
-known : (c : tie.Then1) → let a = (c .before .before .before .before .before .before .before) .args in T (marked (a .fed .now) (a .u .0) (a .w .0))
+abbrev entry : tie.Then1 → tie.Start
+entry c = search
+
+known : (c : tie.Then1) → let a = entry c .args in T (marked (a .fed .now) (a .u .0) (a .w .0))
 known c = subst T (sym (c .if1 .taken) ∙ c .before .is-marked .ensures) tt
 
 add-amount : tie.Need-add-amount
 add-amount c =
     let start : tie.Start = search in
-    let a = start .args in
-    omega (arith, counted (a .amount .now) (a .fed .now) (a .u .0) (a .w .0) (known (search)))
+    omega (arith, fed-marked (start .args .amount .now) _ _ _ (known (search)))
 
 returns : tie.Need-returns
-returns c =
-    let start : tie.Start = search in
-    let a = start .args in
-    let m = known (search) in
-    stored (a .amount .now) (a .fed .now) (a .u .0) (a .w .0) (a .k) (search needs) (search needs) (a .fed .now) _ (added-again (a .fed .now) (a .u .0) (a .w .0) m) (omega (arith, counted (a .amount .now) (a .fed .now) (a .u .0) (a .w .0) m))
+returns c = raised-known _ _ _ _ _ (search needs) (search needs) (search needs) _ (omega arith) (known (search))
 
 returns-2 : tie.Need-returns-2
 returns-2 c =
-    let start : tie.Start = search in
-    let left : tie.Else1 = search in
-    let a = start .args in
-    stored (a .amount .now) (a .fed .now) (a .u .0) (a .w .0) (a .k) (search needs) (search needs) _ (a .k) (c .mark .ensures) (omega (arith, uncounted (a .amount .now) (a .fed .now) (a .u .0) (a .w .0) (subst T (sym (left .before .is-marked .ensures) ∙ left .if1 .left))))
+    let else1 : tie.Else1 = search in
+    raised-new _ _ _ _ _ (search needs) (search needs) (search needs) _ (omega arith) _ (subst T (sym (else1 .before .is-marked .ensures) ∙ else1 .if1 .left)) (c .mark .ensures)
 
 pub raise-spec : {M : Type 1} → statement M
 raise-spec =

@@ -1,0 +1,51 @@
+-- The invariant: each event so far names a transition.
+use Prim.Native.Nat.{_≤_, _-_}
+use native.Mathlib.Omega.{arith}
+use mathlib.Core.Bool.{false}
+use mathlib.Core.Path.{_≡_}
+use borrow.Author.Needs.{needs}
+use Rattle.finite.specs.Bounded.{any}
+use Rattle.finite.specs.Search.{search-start, search-done}
+use Rattle.sheet.specs.Faults.{noTransitionAt, noTransition}
+use Rattle.fault.proofs.Tests.{label-found, label-more}
+use Rattle.fault.proofs.items.no_transition.Statement.{statement}
+use Rattle.fault.proofs.items.no_transition.Tie as tie
+
+abbrev Inv-loop : tie.InvT-loop
+Inv-loop s l v₀ v-end v = (v ≤ l .events) × (any v (noTransitionAt s) ≡ false)
+
+abbrev μ-loop : tie.MeasureT-loop
+μ-loop s l v₀ v-end v = l .events - v
+
+returns : tie.Need-returns Inv-loop μ-loop
+returns c =
+    let start : tie.Start Inv-loop μ-loop = search in
+    let read : tie.After-label Inv-loop μ-loop = search in
+    label-found _ _ (start .pre .1) _ _ (omega arith) (read .label .ensures) (omega arith)
+
+loop-again : tie.Need-loop-again Inv-loop μ-loop
+loop-again c =
+    let start : tie.Start Inv-loop μ-loop = search in
+    let at-loop : tie.At-loop Inv-loop μ-loop = search in
+    let read : tie.After-label Inv-loop μ-loop = search in
+    (search needs, label-more _ _ (start .pre .1) _ _ (at-loop .loop .inv .1) (read .label .ensures) (omega arith))
+
+returns-2 : tie.Need-returns-2 Inv-loop μ-loop
+unfolding noTransition
+returns-2 c =
+    let start : tie.Start Inv-loop μ-loop = search in
+    search-done _ _ _ _ (start .pre .1 .events) (omega arith) (omega arith) (c .before .loop .inv .1)
+
+pub no-transition-spec : {M : Type 1} → statement M
+no-transition-spec =
+    tie.close
+    (tie.spec
+    Inv-loop
+    μ-loop
+    (λ c. (search needs, search-start _))
+    (λ c κs. search needs)
+    returns
+    (λ c. search needs)
+    (λ c. search needs)
+    loop-again
+    returns-2)
