@@ -35,9 +35,9 @@ module _ (s : List ℕ) where
   listing-refused zero e some = absurd (some refl)
   listing-refused (suc k) e some = ap (λ (fault : ℕ). textOf fault (netOf s) (planOf s)) (sym e)
 
-  pub listing-lines : faultOf s ≡ 0 → listingOf s ≡ linesOf (netOf s) (planOf s)
+  pub listing-lines : (k : ℕ) → k ≡ faultOf s → k ≡ 0 → listingOf s ≡ linesOf (netOf s) (planOf s)
   unfolding listingOf textOf
-  listing-lines e = ap (λ (fault : ℕ). textOf fault (netOf s) (planOf s)) e
+  listing-lines k e none = ap (λ (fault : ℕ). textOf fault (netOf s) (planOf s)) (sym e ∙ none)
 
 -- what the counts in a row come to
 pub record Told (s : List ℕ) (t : Totals) : Type 0 where

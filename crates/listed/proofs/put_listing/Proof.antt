@@ -1,5 +1,6 @@
 -- `listed::put_listing`: a sheet is refused by its fault, or listed by what its examination handed on.
-use mathlib.Core.Path.{sym, _∙_}
+use native.Mathlib.Omega.{arith}
+use mathlib.Core.Path.{_≡_, sym, _∙_}
 use borrow.Author.Needs.{needs}
 use Rattle.sheet.specs.Faultless.{faultless}
 use Rattle.listed.proofs.Judging.{listing-refused, listing-lines}
@@ -10,22 +11,21 @@ returns : tie.Need-returns
 returns c =
     let seen : tie.After-examine = search in
     let put : tie.After-put-refused = search in
-    rw (listing-refused _ _ (seen .examine .ensures .0) (search)) (put .put-refused .ensures)
+    rw (listing-refused _ _ (seen .examine .ensures .0) (λ z. omega arith)) (put .put-refused .ensures)
 
 put-lines-requires : tie.Need-put-lines-requires
 put-lines-requires c κs =
     let start : tie.Start = search in
     let seen : tie.After-examine = search in
-    let none : tie.Else1 = search in
-    let handed = seen .examine .ensures .1 .1 (none .if1 .left) in
-    (faultless _ (sym (seen .examine .ensures .0) ∙ none .if1 .left), (handed .0, (handed .1 .ahead, start .pre)))
+    let clear : seen .examine .result .fault ≡ 0 = omega arith in
+    let handed = seen .examine .ensures .1 .1 clear in
+    (faultless _ (sym (seen .examine .ensures .0) ∙ clear), (handed .0, (handed .1 .ahead, start .pre)))
 
 returns-2 : tie.Need-returns-2
 returns-2 c =
     let seen : tie.After-examine = search in
-    let none : tie.Else1 = search in
     let put : tie.After-put-lines = search in
-    rw (listing-lines _ (sym (seen .examine .ensures .0) ∙ none .if1 .left)) (put .put-lines .ensures)
+    rw (listing-lines _ _ (seen .examine .ensures .0) (omega arith)) (put .put-lines .ensures)
 
 pub put-listing-spec : {M : Type 1} → statement M
 put-listing-spec =
