@@ -11,7 +11,7 @@ start c = search
 -- the giver found is before w
 there : (c : tie.After-found) → let a = start c .args in
     Both (a .pred .now) (a .w .0) (a .sets .now) (a .level) (c .found .given .0 .0)
-there c = rw (c .found .given .1) at (c .before .before .last-common .ensures)
+there c = let told = rw (c .found .given .1) at (c .before .before .last-common .ensures) in search
 
 exchange-requires : tie.Need-exchange-requires
 exchange-requires c κs =

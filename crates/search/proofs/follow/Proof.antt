@@ -23,7 +23,7 @@ head c = search
 -- u feeds x, which is not yet listed
 fresh : (c : tie.After-x Inv-loop μ-loop)
     → Only (head c .before .args .fed .now) (head c .before .args .u .0) (head c .loop .takers) 0 (c .x .given .0 .0)
-fresh c = rw (c .x .given .1) at (c .before .before .last-only .ensures)
+fresh c = let told = rw (c .x .given .1) at (c .before .before .last-only .ensures) in search
 
 -- there is room for it
 fits : (c : tie.After-x Inv-loop μ-loop) → head c .loop .end < 256

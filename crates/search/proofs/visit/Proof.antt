@@ -36,7 +36,7 @@ top c = search
 fresh : (c : tie.After-x Inv-loop μ-loop)
     → let a = start c .args in
     Only (a .pred .now) (a .queue .now ! a .head) (top c .loop .givers) 0 (c .x .given .0 .0)
-fresh c = rw (c .x .given .1) at (c .before .before .last-only .ensures)
+fresh c = let told = rw (c .x .given .1) at (c .before .before .last-only .ensures) in search
 
 last-only-requires : tie.Need-last-only-requires Inv-loop μ-loop
 last-only-requires c κs =

@@ -10,11 +10,12 @@ abbrev start : tie.After-found → tie.Start
 start c = search
 
 there : (c : tie.After-found) → let a = start c .args in HasFree (a .givers .now) (a .free .now) (a .n) (c .found .given .0 .0 .0)
-there c = rw (c .found .given .1) at (c .before .before .find-free .ensures)
+there c = let told = rw (c .found .given .1) at (c .before .before .find-free .ensures) in search
 
 returns : tie.Need-returns
 returns c =
-    (search (moves, needs), advance-none (rw (c .enum-told .given .1) at (c .before .before .find-free .ensures)))
+    let none = rw (c .enum-told .given .1) at (c .before .before .find-free .ensures) in
+    (search (moves, needs), advance-none (search))
 
 returns-2 : tie.Need-returns-2
 returns-2 c =
