@@ -14,7 +14,7 @@ use Rattle.calls.specs.Call.{long-row, lower-first}
 use Rattle.calls.specs.Overwritten.{overwritten, over-first, over-size, at-none}
 use Rattle.summary.specs.Summary.{totalMissing, shortPlaces, verdictOf}
 use Rattle.summary.specs.declared.Verdict.{Verdict}
-use Rattle.judge.specs.Counts.{missingAt}
+use Rattle.place.specs.Place.{missingAt}
 use Rattle.plan_judgement.specs.declared.Answer.{Answer}
 use Rattle.plan_judgement.specs.declared.Answer.the-variants.{Fault, Judged}
 use Rattle.plan_judgement.specs.declared.Totals.{Totals}

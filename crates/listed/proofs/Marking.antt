@@ -14,7 +14,7 @@ use Rattle.sheet.specs.Faults.{faultOf}
 use Rattle.calls.specs.Call.{placeFault, a-place, long-row}
 use Rattle.calls.specs.FlowRow.{flowLength, flowFault}
 use Rattle.calls.specs.Overwritten.{overwritten, over-first, at-none}
-use Rattle.handing.specs.Handed.{doneMark}
+use Rattle.place_judgement.specs.Handed.{doneMark}
 use Rattle.place_judgement.specs.Judgement.{judgeFault, marksAfter}
 use Rattle.lines.specs.Listing.{field, firstLine}
 use Rattle.lines.specs.Marked.{marked}

@@ -4,12 +4,12 @@ use borrow.Author.Needs.{needs}
 use denote.Ref.{now}
 use Rattle.sheet.specs.Faults.{layoutFaults, firstFault}
 use Rattle.sheet.specs.Faultless.{layout-decides, layout-laid, content-decides}
-use Rattle.layout.specs.Layout.{LaidBy, within}
+use Rattle.layout.specs.Layout.{within}
 use Rattle.fault.proofs.examine.Statement.{statement}
 use Rattle.fault.proofs.examine.Tie as tie
 
-absent : (c : tie.Else1) → firstFault layoutFaults (now (c .before .before .before .args .s)) ≡ 0
-absent c = cc
+absent : (c : tie.Else1) → let start : tie.Start = search in firstFault layoutFaults (now (start .args .s)) ≡ 0
+absent c = sym (c .before .layout-fault .ensures) ∙ c .if1 .left
 
 returns : tie.Need-returns
 returns c =

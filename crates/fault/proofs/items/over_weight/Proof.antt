@@ -2,7 +2,7 @@
 use Prim.Native.Nat.{_≤_, _-_}
 use native.Mathlib.Omega.{arith}
 use mathlib.Core.Bool.{false}
-use mathlib.Core.Path.{_≡_}
+use mathlib.Core.Path.{_≡_, sym, _∙_}
 use borrow.Author.Needs.{needs}
 use Rattle.finite.specs.Bounded.{any}
 use Rattle.finite.specs.Search.{search-start, search-more, search-done}
@@ -20,13 +20,13 @@ abbrev μ-loop : tie.MeasureT-loop
 returns : tie.Need-returns Inv-loop μ-loop
 returns c =
     let start : tie.Start Inv-loop μ-loop = search in
-    let at-loop : tie.At-loop Inv-loop μ-loop = search in
-    weight-found _ _ (start .pre .1) (at-loop .loop .t) (omega arith) (cc)
+    let in-loop : tie.In-loop Inv-loop μ-loop = search in
+    weight-found _ _ (start .pre .1) _ (in-loop .loop-test .taken) (sym (c .before .over-weight-in .ensures) ∙ c .if1 .taken)
 
 loop-again : tie.Need-loop-again Inv-loop μ-loop
 loop-again c =
     let at-loop : tie.At-loop Inv-loop μ-loop = search in
-    (search needs, search-more _ _ (at-loop .loop .inv .1) (cc))
+    (search needs, search-more _ _ (at-loop .loop .inv .1) (sym (c .before .over-weight-in .ensures) ∙ c .if1 .left))
 
 returns-2 : tie.Need-returns-2 Inv-loop μ-loop
 unfolding overWeight
