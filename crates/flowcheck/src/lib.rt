@@ -12,8 +12,12 @@ ghost use Rattle.sheet.specs.Faultless.{Faultless};
 ghost use Rattle.layout.specs.Layout.{LayoutOf};
 ghost use Rattle.order.specs.Rows.{OrderRows};
 ghost use Rattle.calls.specs.FlowRow.{flowOf};
+ghost use Rattle.flowcheck.specs.Checked.{checkedOf};
 ghost use Rattle.flowcheck.specs.Kept.{keptAt, balanced};
 ghost use Rattle.flowcheck.specs.Sums.{PairSums, sharesOf};
+use calls::with_place;
+use calls::with_row;
+use fault::examine;
 use ids::EVENTS;
 use ids::Event;
 use ids::Place;
@@ -149,4 +153,24 @@ fn is_valid(
         return false;
     }
     is_balanced(s, l, p, row, &into, &out)
+}
+
+// The flow check: Valid exactly if the row is valid. Any numbers may stand in it.
+pub fn check_flow(s: &[u8], p: Place, row: &[u32]) -> Checked
+    ensures { λ r. ⌜ r ≡ checkedOf (was s) (p .0) (was row) ⌝ }
+{
+    let mut succ = [0u32; ROWS];
+    let mut pred = [0u32; ROWS];
+    let placed = with_place(examine(s, &mut succ, &mut pred), p);
+    let l = placed.layout;
+    let found = with_row(placed, row.len(), l.pairs + l.events);
+    let k = found.fault;
+    if k != 0 {
+        return Checked::Fault(k);
+    }
+    if is_valid(s, l, p, row, &succ, &pred) {
+        Checked::Valid
+    } else {
+        Checked::Invalid
+    }
 }
