@@ -24,16 +24,16 @@ unfoldable pub rowFault : ℕ → List ℕ → ℕ → ℕ
 rowFault lower row needed = nextFault lower (ltb (length row) needed) 13
 
 -- What a chain of tests knows that stops at the first fault.
-lower-told : (lower : ℕ) (found : Bool) (k : ℕ) → ¬ (lower ≡ 0) → nextFault lower found k ≡ lower
+pub lower-told : (lower : ℕ) (found : Bool) (k : ℕ) → ¬ (lower ≡ 0) → nextFault lower found k ≡ lower
 unfolding nextFault
 lower-told zero found k some = absurd (some refl)
 lower-told (suc lower) found k some = refl
 
-here-told : (lower : ℕ) (found : Bool) (k : ℕ) → lower ≡ 0 → found ≡ true → nextFault lower found k ≡ k
+pub here-told : (lower : ℕ) (found : Bool) (k : ℕ) → lower ≡ 0 → found ≡ true → nextFault lower found k ≡ k
 unfolding nextFault
 here-told lower found k none here = simp (none, here)
 
-none-told : (lower : ℕ) (found : Bool) (k : ℕ) → lower ≡ 0 → found ≡ false → nextFault lower found k ≡ 0
+pub none-told : (lower : ℕ) (found : Bool) (k : ℕ) → lower ≡ 0 → found ≡ false → nextFault lower found k ≡ 0
 unfolding nextFault
 none-told lower found k none here = simp (none, here)
 

@@ -1,3 +1,4 @@
 pub mod Call
 pub mod FlowRow
 pub mod Overwritten
+pub mod Refusal

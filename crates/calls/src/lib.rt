@@ -1,1 +1,36 @@
-// The faults of a call and the flow row that it lends, in specs/. No code.
+// The chain of faults of a call, one link after another: the sheet's own, then a place's, then each lent row's. A lower fault is handed on.
+ghost use mathlib.Core.Path.{_≡_};
+ghost use lib.Dec.{leb, ltb};
+ghost use Rattle.calls.specs.Call.{nextFault};
+ghost use Rattle.calls.specs.Refusal.{Next};
+use fault::Examined;
+use ids::Place;
+
+// The fault k after those that an examination found, if a test finds it.
+fn next(e: Examined, found: bool, k: u32) -> Examined
+    ensures { λ r. ⌜ Next e found k r ⌝ }
+{
+    let lower = e.fault;
+    if lower != 0 {
+        return e;
+    }
+    if found {
+        let layout = e.layout;
+        return Examined { fault: k, layout };
+    }
+    e
+}
+
+// 12: the place number isn't in the net.
+pub fn with_place(e: Examined, p: Place) -> Examined
+    ensures { λ r. ⌜ Next e (leb (e .layout .places) (p .0)) 12 r ⌝ }
+{
+    next(e, e.layout.places <= p.0, 12)
+}
+
+// 13: a lent row of `have` entries is too short for those needed.
+pub fn with_row(e: Examined, have: usize, needed: usize) -> Examined
+    ensures { λ r. ⌜ Next e (ltb have needed) 13 r ⌝ }
+{
+    next(e, have < needed, 13)
+}

@@ -25,7 +25,7 @@ use Rattle.sheet.specs.Faultless.{faultless, sound}
 use Rattle.calls.specs.Call.{placeFault, row-known, place-known}
 use Rattle.calls.specs.FlowRow.{flowFault, flowLength, flowOf}
 use Rattle.calls.specs.Overwritten.{over-first, at-none}
-use Rattle.handing.specs.Handed.{doneMark}
+use Rattle.place_judgement.specs.Handed.{doneMark}
 use Rattle.flowcheck.specs.declared.Checked.{Checked}
 use Rattle.flowcheck.specs.declared.Checked.the-variants.{Valid, Invalid, Fault as Refused}
 use Rattle.flowcheck.specs.Checked.{checkedOf, saysYes, checked-yes}

@@ -15,7 +15,7 @@ use Rattle.theory.specs.Comparisons.{missing-order, missing-same}
 use Rattle.theory.specs.Theorems.{least-count}
 use Rattle.sheet.specs.Items.{netOf, planOf}
 use Rattle.sheet.specs.Faultless.{faultless, sound, labelled}
-use Rattle.demands.specs.Counted.{Taken, Counted, count-is}
+use Rattle.demands.specs.Returned.{Taken, Returned, count-is}
 
 -- The same events, labels and pairs.
 pub record SamePlan (P Q : Plan) : Type 0 where
@@ -35,18 +35,18 @@ pub record Least (s : List ℕ) (p m : ℕ) : Type 0 where
   pub overrun-reached : (x : Flow) × T (otherwiseValid (netOf s) (planOf s) p x) × (overrun (netOf s) (planOf s) p x ≡ m)
   pub not-undercut : (x : Flow) → T (otherwiseValid (netOf s) (planOf s) p x) → m ≤ overrun (netOf s) (planOf s) p x
   -- "k more tokens opening lower it by k, at most to 0;" all else at the place is the same, the pairs too.
-  pub more-tokens : (s′ : List ℕ) (k m′ : ℕ) → Taken s′ → Counted s′ p m′ → SameAt p (withMore (netOf s) p k) (netOf s′) → SamePlan (planOf s) (planOf s′) → m′ ≡ m - k
+  pub more-tokens : (s′ : List ℕ) (k m′ : ℕ) → Taken s′ → Returned s′ p m′ → SameAt p (withMore (netOf s) p k) (netOf s′) → SamePlan (planOf s) (planOf s′) → m′ ≡ m - k
   -- "more order never raises it;" the net is the same, and whatever is before an event still is, whichever pairs say so.
-  pub more-order : (s′ : List ℕ) (m′ : ℕ) → Taken s′ → Counted s′ p m′ → SameAt p (netOf s) (netOf s′) → MoreOrder (planOf s) (planOf s′) → m′ ≤ m
+  pub more-order : (s′ : List ℕ) (m′ : ℕ) → Taken s′ → Returned s′ p m′ → SameAt p (netOf s) (netOf s′) → MoreOrder (planOf s) (planOf s′) → m′ ≤ m
   -- "other places' numbers don't matter."
-  pub other-places : (s′ : List ℕ) (m′ : ℕ) → Taken s′ → Counted s′ p m′ → SameAt p (netOf s) (netOf s′) → SamePlan (planOf s) (planOf s′) → m′ ≡ m
+  pub other-places : (s′ : List ℕ) (m′ : ℕ) → Taken s′ → Returned s′ p m′ → SameAt p (netOf s) (netOf s′) → SamePlan (planOf s) (planOf s′) → m′ ≡ m
   -- The same for tokens and orders beyond what a sheet can hold.
   pub any-tokens : (k : ℕ) → missing (withMore (netOf s) p k) (planOf s) p ≡ m - k
   pub any-order : (Q : Plan) → MoreOrder (planOf s) Q → missing (netOf s) Q p ≤ m
 
 -- Demand 3.
 abbrev pub Demand3 : Type 0
-Demand3 = (s : List ℕ) → Taken s → (p m : ℕ) → Counted s p m → Least s p m
+Demand3 = (s : List ℕ) → Taken s → (p m : ℕ) → Returned s p m → Least s p m
 
 -- ---- the proof
 
@@ -78,7 +78,7 @@ same-missing N P Q p e =
     (missing-order N P Q p (same-order P Q e))
 
 -- what is missing at a place of another sheet is what is missing there with its plan in any net with the same numbers at that place
-elsewhere : (N : Net) (s : List ℕ) (p m : ℕ) → Taken s → Counted s p m → SameAt p N (netOf s) → m ≡ missing N (planOf s) p
+elsewhere : (N : Net) (s : List ℕ) (p m : ℕ) → Taken s → Returned s p m → SameAt p N (netOf s) → m ≡ missing N (planOf s) p
 elsewhere N s p m taken counted at =
     count-is s p m counted
     ∙ sym (missing-same N (netOf s) (planOf s) p (record { named = λ v l. omega (arith, at .transitions, labelled s (faultless s taken) .named v l) }) at)

@@ -1,4 +1,4 @@
-pub mod Counted
+pub mod Returned
 pub mod Whole
 pub mod Demand2
 pub mod Demand3

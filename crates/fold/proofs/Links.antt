@@ -1,14 +1,16 @@
 -- Pair after pair: the skeleton pairs among those so far are marked and numbered.
-use Prim.Native.Nat.{ℕ, _+_, _*_, _≤_, _<_}
+use Prim.Native.Nat.{ℕ, _+_, _*_, _<_}
 use native.Mathlib.Omega.{arith}
-use mathlib.Core.Bool.{not, _&&_}
+use mathlib.Core.Bool.{Bool, true, false, not, _&&_}
 use mathlib.Core.List.{List}
 use mathlib.Core.Logic.{⊎-elim}
 use mathlib.Core.Path.{_≡_, sym, ap, subst, _∙_}
-use lib.Dec.{T, eqb, eqb→eq, T-not}
-use lib.ListN.{length, getD, set, length-set, length-replicate}
+use denote.Floats.{passes}
+use lib.Dec.{T, eqb, eqb→eq}
+use lib.ListN.{length, getD, set}
 use lib.Seq.{getD-set-same, getD-set-other}
 use mir.Facts.{and-yes, yes-and, or-yes, yes-eqb, eqb-no}
+use Rattle.ids.specs.Limits.{mostEvents, rowsWords}
 use Rattle.finite.specs.Bounded.{below-suc, decide, yes-or-left, yes-or-right}
 use Rattle.finite.specs.Search.{fails}
 use Rattle.plan.specs.Net.{Plan}
@@ -19,67 +21,105 @@ use Rattle.order.specs.Rows.{Blank, OrderRows}
 use Rattle.sheet.specs.Faultless.{Faultless}
 use Rattle.sheet.specs.Items.{earlierAt, laterAt, planOf}
 use Rattle.sheet.specs.Table.{pairsOf}
-use Rattle.fold.specs.Linked.{IsLink, Linked}
+use Rattle.fold.specs.Linked.{numberOf, Numbered, IsLink, Linked}
 
-pub start : (P : Plan) (skel index : List ℕ) → Blank skel → 65536 ≤ length index → Linked P 0 skel index
-start P skel index blank long =
+pub numbered : (index : List ℕ) (a b i : ℕ) → a * mostEvents + b < length index → Numbered index (set index (a * mostEvents + b) i) a b i
+numbered index a b i l =
+    record { here = getD-set-same index _ i 0 l; others = λ at apart. getD-set-other index _ at i 0 apart }
+
+pub links-none : (P : Plan) (m : ℕ) (skel index : List ℕ) → m ≡ 0 → Blank skel → Linked P m skel index
+links-none P m skel index none blank =
     record {
-      skel-size = ap length blank ∙ length-replicate {A = ℕ} 2048 0;
-      index-size = long;
-      links = λ a b ha hb t. absurd (fails (marked skel b a) (rw blank (none-marked 2048 b a)) t);
+      links = λ a b ha hb t. absurd (fails (marked skel b a) (rw blank (none-marked rowsWords b a)) t);
       marks = λ i l t. absurd (omega arith);
     }
 
-module _ (P : Plan) (m : ℕ) (skel index : List ℕ) (l : Linked P m skel index) where
-  wider : (a b i : ℕ) → IsLink P m a b i → IsLink P (m + 1) a b i
-  wider a b i k = record { named = omega (arith, k .named); bare = k .bare; starts = k .starts; ends = k .ends }
+module _ {P : Plan} {m : ℕ} {skel index : List ℕ} (l : Linked P m skel index) where
+  pub links-all : {n : ℕ} → m ≡ n → Linked P n skel index
+  links-all e = subst (λ (n : ℕ). Linked P n skel index) e l
 
-  pub skip : T (not (skeleton P m)) → Linked P (m + 1) skel index
+  wider : {a b i : ℕ} → IsLink P m a b i → IsLink P (m + 1) a b i
+  wider k = record { named = omega (arith, k .named); bare = k .bare; starts = k .starts; ends = k .ends }
+
+  skip : skeleton P m ≡ false → Linked P (m + 1) skel index
   skip passed =
       record {
-        skel-size = l .skel-size;
-        index-size = l .index-size;
-        links = λ a b ha hb t. wider a b (getD index (a * 256 + b) 0) (l .links a b ha hb t);
-        marks = λ i h t. below-suc m i (omega arith) (λ low. l .marks i low t) (λ e. absurd (T-not (skeleton P m) passed (subst (λ (n : ℕ). T (skeleton P n)) e t)));
+        links = λ a b ha hb t. wider (l .links a b ha hb t);
+        marks = λ i h t.
+            below-suc
+            m
+            i
+            (omega arith)
+            (λ low. l .marks i low t)
+            (λ e. absurd (fails (skeleton P m) passed (subst (λ (n : ℕ). T (skeleton P n)) e t)));
       }
 
-  module _ (narrow : (i : ℕ) → i < m + 1 → P .earlier i < 256) (hb : P .later m < 256) (bare : T (skeleton P m)) (skel′ : List ℕ) (added : MarkAdded skel skel′ (P .later m) (P .earlier m)) where
+  module _ (narrow : (i : ℕ) → i < m + 1 → P .earlier i < mostEvents) (bare : skeleton P m ≡ true) {skel′ index′ : List ℕ}
+      (hb : P .later m < mostEvents) (added : MarkAdded skel skel′ (P .later m) (P .earlier m)) (new : Numbered index index′ (P .earlier m) (P .later m) m) where
     place : ℕ
-    place = P .earlier m * 256 + P .later m
+    place = P .earlier m * mostEvents + P .later m
 
-    marked-too : Linked P (m + 1) skel′ (set index (P .earlier m * 256 + P .later m) m)
+    more : Linked P (m + 1) skel′ index′
     unfolding place
-    marked-too =
+    more =
         record {
-          skel-size = added .size ∙ l .skel-size;
-          index-size = simp length-set (l .index-size);
-          links = λ a b ha hb t. ⊎-elim (λ e. here a b hb (eqb→eq (a * 256 + b) place e)) (λ e. there a b ha hb t (eqb-no e)) (decide (eqb (a * 256 + b) place));
-          marks = λ i h t. subst T (sym (added .marks (P .later i) (P .earlier i) (narrow i h))) (below-suc m i (omega arith) (λ low. yes-or-left (marked skel (P .later i) (P .earlier i)) _ (l .marks i low t)) (λ e. yes-or-right (marked skel (P .later i) (P .earlier i)) _ (yes-and (eqb (P .later i) (P .later m)) (eqb (P .earlier i) (P .earlier m)) (yes-eqb (ap (P .later) e)) (yes-eqb (ap (P .earlier) e)))));
+          links = λ a b ha hb t. ⊎-elim (λ e. here a b hb (eqb→eq (a * mostEvents + b) place e)) (λ e. there a b ha hb t (eqb-no e)) (decide (eqb (a * mostEvents + b) place));
+          marks = λ i h t.
+              subst
+              T
+              (sym (added .marks (P .later i) (P .earlier i) (narrow i h)))
+              (below-suc
+              m
+              i
+              (omega arith)
+              (λ low. yes-or-left (marked skel (P .later i) (P .earlier i)) _ (l .marks i low t))
+              (λ e. yes-or-right (marked skel (P .later i) (P .earlier i)) _ (it i e)));
         }
       where
-        here : (a b : ℕ) → b < 256 → a * 256 + b ≡ place → IsLink P (m + 1) a b (getD (set index place m) (a * 256 + b) 0)
+        it : (i : ℕ) → i ≡ m → T (eqb (P .later i) (P .later m) && eqb (P .earlier i) (P .earlier m))
+        it i e = yes-and (eqb (P .later i) (P .later m)) _ (yes-eqb (ap (P .later) e)) (yes-eqb (ap (P .earlier) e))
+
+        here : (a b : ℕ) → b < mostEvents → a * mostEvents + b ≡ place → IsLink P (m + 1) a b (numberOf index′ a b)
         here a b h e =
             subst
             (IsLink P (m + 1) a b)
-            (sym (ap (λ (n : ℕ). getD (set index place m) n 0) e ∙ getD-set-same index place m 0 (omega (arith, l .index-size, narrow m (omega arith)))))
-            (record { named = omega arith; bare = bare; starts = omega arith; ends = omega arith })
+            (sym (ap (λ (n : ℕ). getD index′ n 0) e ∙ new .here))
+            (record { named = omega arith; bare = passes (skeleton P m) bare; starts = omega arith; ends = omega arith })
 
-        there : (a b : ℕ) → a < 256 → b < 256 → T (marked skel′ b a) → (a * 256 + b ≡ place → ⊥) → IsLink P (m + 1) a b (getD (set index place m) (a * 256 + b) 0)
+        there : (a b : ℕ) → a < mostEvents → b < mostEvents → T (marked skel′ b a) → (a * mostEvents + b ≡ place → ⊥) → IsLink P (m + 1) a b (numberOf index′ a b)
         there a b ha h t apart =
             subst
             (IsLink P (m + 1) a b)
-            (sym (getD-set-other index place (a * 256 + b) m 0 apart))
+            (sym (new .others (a * mostEvents + b) apart))
             (⊎-elim
-            (λ old. wider a b (getD index (a * 256 + b) 0) (l .links a b ha h old))
-            (λ new. let both = and-yes (eqb b (P .later m)) (eqb a (P .earlier m)) new in absurd (apart (omega (arith, eqb→eq b (P .later m) (both .0), eqb→eq a (P .earlier m) (both .1)))))
+            (λ old. wider (l .links a b ha h old))
+            (λ new.
+            let both = and-yes (eqb b (P .later m)) (eqb a (P .earlier m)) new in
+            absurd (apart (omega (arith, eqb→eq b (P .later m) (both .0), eqb→eq a (P .earlier m) (both .1)))))
             (or-yes (marked skel b a) (eqb b (P .later m) && eqb a (P .earlier m)) (subst T (added .marks b a ha) t)))
 
-  pub more : (a b : ℕ) → a ≡ P .earlier m → b ≡ P .later m → ((i : ℕ) → i < m + 1 → P .earlier i < 256) → b < 256 → T (skeleton P m)
-      → (skel′ : List ℕ) → MarkAdded skel skel′ b a → Linked P (m + 1) skel′ (set index (a * 256 + b) m)
-  more a b e f narrow hb bare skel′ added =
-      rw (e, f) (marked-too narrow (rw f at hb) bare skel′ (rw (e, f) at added))
+-- pair i of a faultless sheet
+module _ {s : List ℕ} (known : Faultless s) {i a b : ℕ} (lm : i < pairsOf s) (at-a : a ≡ earlierAt s i) (at-b : b ≡ laterAt s i) where
+  pub within : (a < mostEvents) × (b < mostEvents)
+  within = (omega (arith, known .earlier i lm, known .laid .limited .events), omega (arith, known .later i lm, known .laid .limited .events))
 
--- what the rows say of a pair's ends
-pub told : (s : List ℕ) (known : Faultless s) (succ pred : List ℕ) → OrderRows (planOf s) succ pred → (i a b : ℕ) → a ≡ earlierAt s i
-    → b ≡ laterAt s i → i < pairsOf s → not (meeting succ a pred b) ≡ skeleton (planOf s) i
-told s known succ pred rows i a b e f l = rw (e, f) (skeleton-marked s known succ pred rows i l)
+  module _ {succ pred : List ℕ} (rows : OrderRows (planOf s) succ pred) {r : Bool} (told : r ≡ not (meeting succ a pred b)) where
+    answer : skeleton (planOf s) i ≡ r
+    answer = sym (told ∙ rw (at-a, at-b) (skeleton-marked s known succ pred rows i lm))
+
+    module _ {skel index skel′ index′ : List ℕ} (l : Linked (planOf s) i skel index) where
+      pub link-skip : r ≡ false → skel′ ≡ skel → index′ ≡ index → Linked (planOf s) (i + 1) skel′ index′
+      link-skip away e f = rw (e, f) (skip l (answer ∙ away))
+
+      pub link-more : {skel₁ index₁ : List ℕ} → r ≡ true → MarkAdded skel skel₁ b a → Numbered index index₁ a b i → skel′ ≡ skel₁ → index′ ≡ index₁
+          → Linked (planOf s) (i + 1) skel′ index′
+      link-more bare added new e f =
+          rw
+          (e, f)
+          (more
+          l
+          (λ j h. omega (arith, known .earlier j (omega arith), known .laid .limited .events))
+          (answer ∙ bare)
+          (omega (arith, within))
+          (rw (at-a, at-b) at added)
+          (rw (at-a, at-b) at new))

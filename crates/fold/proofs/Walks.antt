@@ -1,15 +1,18 @@
 -- The walk back from an event along skeleton pairs: a step exists, and steps lead nearer.
-use Prim.Native.Nat.{ℕ, _+_, _*_, _<_}
+use Prim.Native.Nat.{ℕ, _+_, _<_}
 use native.Mathlib.Omega.{arith}
-use mathlib.Core.Bool.{Bool, _&&_, _||_}
+use mathlib.Core.Bool.{Bool, true, false, _&&_, _||_}
 use mathlib.Core.List.{List}
 use mathlib.Core.Logic.{_⊎_, inl, inr, ⊎-elim}
-use mathlib.Core.Path.{_≡_, refl, sym, ap, subst, subst₂, _∙_}
-use lib.Dec.{T, eqb, eqb→eq, T-not}
-use lib.ListN.{length, getD, set}
-use lib.Seq.{getD-set-same, getD-set-other}
-use mir.Facts.{and-yes, yes-and, or-yes, yes-eqb, eqb-no}
-use Rattle.finite.specs.Bounded.{decide, yes-or-left, yes-or-right}
+use mathlib.Core.Path.{_≡_, refl, sym, subst, subst₂}
+use denote.Floats.{passes}
+use lib.Dec.{T, eqb, eqb→eq}
+use lib.ListN.{length, getD, length-set}
+use mir.Facts.{and-yes, yes-and, or-yes, yes-eqb}
+use Rattle.ids.specs.Limits.{mostEvents}
+use Rattle.finite.specs.Bounded.{yes-or-left, yes-or-right}
+use Rattle.finite.specs.Row.{raised-at}
+use Rattle.finite.specs.Search.{fails}
 use Rattle.finite.specs.Sum.{on, sum, sum-strict, on-mono, on-yes, on-no}
 use Rattle.plan.specs.Net.{Plan}
 use Rattle.plan.specs.Order.{Before, pair, chain}
@@ -17,51 +20,57 @@ use Rattle.theory.specs.Skeleton.{before-earlier, before-later, last-link}
 use Rattle.marks.specs.Marks.{marked}
 use Rattle.marks.specs.Search.{Both}
 use Rattle.fold.specs.Carried.{Carried, carried-none, carried-more}
-use Rattle.fold.specs.Linked.{IsLink, Walkable, StepBack}
-use Rattle.fold.specs.Written.{numbersOf}
+use Rattle.fold.specs.Linked.{numberOf, IsLink, Walkable, StepBack}
+use Rattle.fold.specs.Written.{numbersOf, raisedBy}
 
-module _ (P : Plan) (succ skel index : List ℕ) (way : Walkable P succ skel index) where
+module _ {P : Plan} {succ skel index : List ℕ} (way : Walkable P succ skel index) where
   -- both ends are events
-  pub ends : (u v : ℕ) → Before P u v → (u < 256) × (v < 256)
+  pub ends : (u v : ℕ) → Before P u v → (u < mostEvents) × (v < mostEvents)
   ends u v b = (omega (arith, before-earlier P (way .sound) b, way .few), omega (arith, before-later P (way .sound) b, way .few))
 
   link-before : (a b i : ℕ) → IsLink P (P .pairs) a b i → Before P a b
   link-before a b i k = subst₂ (Before P) (k .starts) (k .ends) (pair i (k .named))
 
-  module _ (u cur : ℕ) (b : Before P u cur) where
+  module _ {u cur : ℕ} (b : Before P u cur) where
     -- u itself is one pair back
-    pub step-here : T (marked skel cur u) → StepBack P index u cur u
-    step-here t = let e = ends u cur b in record { link = way .linked .links u cur (e .0) (e .1) t; onward = inl refl }
+    pub step-here : marked skel cur u ≡ true → StepBack P index u cur u
+    step-here t =
+        let e = ends u cur b in
+        record { link = way .linked .links u cur (e .0) (e .1) (passes (marked skel cur u) t); onward = inl refl }
 
     -- or some event after u is
     pub step-there : (v : ℕ) → Both skel cur succ u v → StepBack P index u cur v
     step-there v both =
         let e = ends u cur b in
+        let event = way .after .only u v (both .below) (both .second) in
         record {
           link = way .linked .links v cur (both .below) (e .1) (both .first);
-          onward = inr (way .after .marks u v (before-earlier P (way .sound) b) (way .after .only u v (both .below) (both .second)) .0 (both .second));
+          onward = inr (way .after .marks u v (before-earlier P (way .sound) b) event .0 (both .second));
         }
 
     -- and one of the two is so
-    pub step-exists : (T (marked skel cur u) → ⊥) → ((v : ℕ) → Both skel cur succ u v → ⊥) → ⊥
+    pub step-exists : marked skel cur u ≡ false → ((v : ℕ) → Both skel cur succ u v → ⊥) → ⊥
     step-exists away none =
         let k = last-link P (way .sound) b in
         let i = k .link .index in
         let m = subst (λ (x : ℕ). T (marked skel x (P .earlier i))) (k .link .ends) (way .linked .marks i (k .link .named) (k .bare)) in
         ⊎-elim
-        (λ e. away (subst (λ (x : ℕ). T (marked skel cur x)) e m))
-        (λ c. let l = before-later P (way .sound) c in none (P .earlier i) (record { below = omega (arith, l, way .few); first = m; second = way .after .marks u (P .earlier i) (before-earlier P (way .sound) c) l .1 c }))
+        (λ e. fails (marked skel cur u) away (subst (λ (x : ℕ). T (marked skel cur x)) e m))
+        (λ c.
+        let l = before-later P (way .sound) c in
+        let after = way .after .marks u (P .earlier i) (before-earlier P (way .sound) c) l .1 c in
+        none (P .earlier i) (record { below = omega (arith, l, way .few); first = m; second = after }))
         (k .link .starts)
 
 -- how many events are after u and up to cur
 unfoldable pub steps : List ℕ → ℕ → ℕ → ℕ
-steps succ u cur = sum 256 (λ z. on (marked succ u z && (eqb z cur || marked succ z cur)) 1)
+steps succ u cur = sum mostEvents (λ z. on (marked succ u z && (eqb z cur || marked succ z cur)) 1)
 
-module _ (P : Plan) (succ skel index : List ℕ) (way : Walkable P succ skel index) (u cur v : ℕ) (b : Before P u cur) (s : StepBack P index u cur v) where
+module _ {P : Plan} {succ skel index : List ℕ} (way : Walkable P succ skel index) {u cur v : ℕ} (b : Before P u cur) (s : StepBack P index u cur v) where
   onWay : ℕ → ℕ → Bool
   onWay x z = marked succ u z && (eqb z x || marked succ z x)
 
-  is-on-way : (x z : ℕ) → x < P .events → z < 256 → T (onWay x z) → Before P u z × ((z ≡ x) ⊎ Before P z x)
+  is-on-way : (x z : ℕ) → x < P .events → z < mostEvents → T (onWay x z) → Before P u z × ((z ≡ x) ⊎ Before P z x)
   unfolding onWay
   is-on-way x z hx hz t =
       let both = and-yes (marked succ u z) (eqb z x || marked succ z x) t in
@@ -78,23 +87,33 @@ module _ (P : Plan) (succ skel index : List ℕ) (way : Walkable P succ skel ind
       (marked succ u z)
       (eqb z x || marked succ z x)
       (way .after .marks u z (before-earlier P (way .sound) c) l .1 c)
-      (⊎-elim (λ e. yes-or-left (eqb z x) (marked succ z x) (yes-eqb e)) (λ d. yes-or-right (eqb z x) (marked succ z x) (way .after .marks z x l hx .1 d)) h)
+      (⊎-elim
+      (λ e. yes-or-left (eqb z x) (marked succ z x) (yes-eqb e))
+      (λ d. yes-or-right (eqb z x) (marked succ z x) (way .after .marks z x l hx .1 d))
+      h)
 
   -- a step back leaves fewer of them
   pub fewer : steps succ u v < steps succ u cur
   unfolding steps onWay
   fewer =
       sum-strict
-      256
+      mostEvents
       (λ z. on (onWay v z) 1)
       (λ z. on (onWay cur z) 1)
-      (λ z l. on-mono (onWay v z) (onWay cur z) 1 (λ t. let h = is-on-way v z early l t in yes-on-way cur z late (h .0) (inr (⊎-elim (λ e. subst (λ (y : ℕ). Before P y cur) (sym e) back) (λ d. chain d back) (h .1)))))
+      (λ z l. on-mono (onWay v z) (onWay cur z) 1 (λ t. let h = is-on-way v z early l t in yes-on-way cur z late (h .0) (inr (nearer (h .1)))))
       cur
       (omega (arith, late, way .few))
-      (omega (arith, on-yes (onWay cur cur) 1 (yes-on-way cur cur late b (inl refl)), on-no (onWay v cur) 1 (λ t. ⊎-elim (λ e. way .sound .acyclic cur (subst (λ (y : ℕ). Before P y cur) (sym e) back)) (λ d. way .sound .acyclic cur (chain d back)) (is-on-way v cur early (omega (arith, late, way .few)) t .1))))
+      (omega (
+        arith,
+        on-yes (onWay cur cur) 1 (yes-on-way cur cur late b (inl refl)),
+        on-no (onWay v cur) 1 (λ t. way .sound .acyclic cur (nearer (is-on-way v cur early (omega (arith, late, way .few)) t .1))),
+      ))
     where
       back : Before P v cur
-      back = link-before P succ skel index way v cur (getD index (v * 256 + cur) 0) (s .link)
+      back = link-before way v cur (numberOf index v cur) (s .link)
+
+      nearer : {z : ℕ} → (z ≡ v) ⊎ Before P z v → Before P z cur
+      nearer = ⊎-elim (λ e. subst (λ (y : ℕ). Before P y cur) (sym e) back) (λ d. chain d back)
 
       late : cur < P .events
       late = before-later P (way .sound) b
@@ -102,48 +121,72 @@ module _ (P : Plan) (succ skel index : List ℕ) (way : Walkable P succ skel ind
       early : v < P .events
       early = before-earlier P (way .sound) back
 
--- a row with k more at i
-added : (row : List ℕ) (i k j : ℕ) → i < length row → numbersOf (set row i (getD row i 0 + k)) j ≡ numbersOf row j + on (eqb i j) k
-added row i k j l =
-    ⊎-elim
-    (λ e. let same = eqb→eq i j e in ap (λ (n : ℕ). getD (set row i (getD row i 0 + k)) n 0) (sym same) ∙ getD-set-same row i (getD row i 0 + k) 0 l ∙ omega (arith, ap (λ (n : ℕ). getD row n 0) same, on-yes (eqb i j) k e))
-    (λ e. getD-set-other row i j (getD row i 0 + k) 0 (λ d. eqb-no e (sym d)) ∙ omega (arith, on-no (eqb i j) k (T-not (eqb i j) e)))
-    (decide (eqb i j))
-
 -- The walk from w back toward u has come to cur.
 pub record Walk (P : Plan) (row₀ row : List ℕ) (u cur w k : ℕ) : Type 0 where
   pub carried : Carried P (numbersOf row₀) (numbersOf row) cur w k
   pub onward : (cur ≡ u) ⊎ Before P u cur
 
-pub walk-start : (P : Plan) (row : List ℕ) (u w k : ℕ) → Before P u w → Walk P row row u w w k
-walk-start P row u w k b = record { carried = carried-none P (numbersOf row) w k; onward = inr b }
+-- It has in every plan that has the rows.
+pub record Walking (succ skel index row₀ row : List ℕ) (u cur w k : ℕ) : Type 0 where
+  pub size : length row ≡ length row₀
+  pub walk : (P : Plan) → Walkable P succ skel index → Before P u w → Walk P row₀ row u cur w k
 
-module _ (P : Plan) (row₀ row : List ℕ) (u cur w k : ℕ) (walk : Walk P row₀ row u cur w k) where
-  -- it is over
-  pub walk-done : cur ≡ u → Carried P (numbersOf row₀) (numbersOf row) u w k
-  walk-done e = subst (λ (x : ℕ). Carried P (numbersOf row₀) (numbersOf row) x w k) e (walk .carried)
+pub walk-start : (succ skel index row : List ℕ) (u w k : ℕ) → Walking succ skel index row row u w w k
+walk-start succ skel index row u w k =
+    record { size = refl; walk = λ P way b. record { carried = carried-none P (numbersOf row) w k; onward = inr b } }
 
-  -- or not yet
-  pub walk-before : (cur ≡ u → ⊥) → Before P u cur
-  walk-before ne = ⊎-elim (λ e. absurd (ne e)) (λ b. b) (walk .onward)
+module _ {succ skel index row₀ row : List ℕ} {u cur w k : ℕ} (g : Walking succ skel index row₀ row u cur w k) where
+  pub walk-done : cur ≡ u → (P : Plan) → Walkable P succ skel index → Before P u w → Carried P (numbersOf row₀) (numbersOf row) u w k
+  walk-done e P way b =
+      subst (λ (x : ℕ). Carried P (numbersOf row₀) (numbersOf row) x w k) e (g .walk P way b .carried)
 
-  module _ (index : List ℕ) (v : ℕ) (s : StepBack P index u cur v) where
-    i : ℕ
-    i = getD index (v * 256 + cur) 0
+  module _ (apart : cur ≡ u → ⊥) where
+    on-way : (P : Plan) → Walkable P succ skel index → Before P u w → Before P u cur
+    on-way P way b = ⊎-elim (λ e. absurd (apart e)) (λ d. d) (g .walk P way b .onward)
 
-    -- the pair has not been on the way
-    pub walk-fresh : getD row (getD index (v * 256 + cur) 0) 0 ≡ getD row₀ (getD index (v * 256 + cur) 0) 0
-    walk-fresh = walk .carried .fresh (getD index (v * 256 + cur) 0) (s .link .named) (inl (s .link .ends))
+    -- Some plan has the rows.
+    module _ (some : (P : Plan) × Walkable P succ skel index × Before P u w × (P .pairs ≡ length row₀)) where
+      here : Before (some .0) u cur
+      here = on-way (some .0) (some .1) (some .2)
 
-    pub walk-more : (succ skel : List ℕ) → Walkable P succ skel index → getD index (v * 256 + cur) 0 < length row
-        → Walk P row₀ (set row (getD index (v * 256 + cur) 0) (getD row (getD index (v * 256 + cur) 0) 0 + k)) u v w k
-    unfolding i
-    walk-more succ skel way long =
-        record {
-          carried =
-              subst
-              (λ (x : ℕ). Carried P (numbersOf row₀) (numbersOf (set row i (getD row i 0 + k))) x w k)
-              (s .link .starts)
-              (carried-more P (way .sound) (numbersOf row₀) (numbersOf row) (numbersOf (set row i (getD row i 0 + k))) cur w k i (s .link .named) (s .link .bare) (s .link .ends) (λ j l. added row i k j long) (walk .carried));
-          onward = s .onward;
-        }
+      pub walk-step : (P : Plan) × (at : List ℕ) × Walkable P succ skel at × Before P u cur
+      walk-step = (some .0, index, some .1, here)
+
+      module _ {v : ℕ} (back : (P : Plan) (at : List ℕ) → Walkable P succ skel at → Before P u cur → StepBack P at u cur v) where
+        step : StepBack (some .0) index u cur v
+        step = back (some .0) index (some .1) here
+
+        pub walk-fewer : steps succ u v < steps succ u cur
+        walk-fewer = fewer (some .1) here step
+
+        -- the pair has a number in the row,
+        pub walk-named : numberOf index v cur < length row
+        walk-named = omega (arith, step .link .named, some .3, g .size)
+
+        -- which has not been on the way, and so has room
+        pub walk-room : ((i : ℕ) → i < length row₀ → getD row₀ i 0 + k < 4294967296) → getD row (numberOf index v cur) 0 + k < 4294967296
+        walk-room room =
+            omega (
+              arith,
+              room (numberOf index v cur) (omega (arith, walk-named, g .size)),
+              g .walk (some .0) (some .1) (some .2) .carried .fresh (numberOf index v cur) (step .link .named) (inl (step .link .ends)),
+            )
+
+        pub walk-more : (row′ : List ℕ) → row′ ≡ raisedBy row (numberOf index v cur) k → Walking succ skel index row₀ row′ u v w k
+        walk-more row′ e =
+            rw
+            e
+            (record {
+              size = simp length-set (g .size);
+              walk = λ P way b.
+                  let s = back P index way (on-way P way b) in
+                  let link = s .link in
+                  record {
+                    carried =
+                        subst
+                        (λ (x : ℕ). Carried P (numbersOf row₀) (numbersOf (raisedBy row (numberOf index v cur) k)) x w k)
+                        (link .starts)
+                        (carried-more P (way .sound) _ _ _ cur w k _ (link .named) (link .bare) (link .ends) (λ j l. raised-at row _ k walk-named j) (g .walk P way b .carried));
+                    onward = s .onward;
+                  };
+            })

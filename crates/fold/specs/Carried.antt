@@ -7,7 +7,7 @@ use mathlib.Core.Path.{_≡_, refl, sym, ap, subst, _∙_}
 use lib.Dec.{T, eqb, eqb→eq, T-not}
 use mir.Facts.{yes-eqb}
 use Rattle.finite.specs.Bounded.{decide}
-use Rattle.finite.specs.Sum.{on, on-yes, on-no, on-le, on-swap, at-end-more, sum-row-more, sum-column-more}
+use Rattle.finite.specs.Sum.{on, sum, on-yes, on-no, on-le, on-swap, at-end-more, sum-row-more, sum-column-more}
 use Rattle.plan.specs.Net.{Plan}
 use Rattle.plan.specs.Order.{Before, pair, chain, skeleton, Sound}
 use Rattle.plan.specs.Flow.{Flow}
@@ -38,7 +38,8 @@ carried-none P x w k =
     back v false = omega arith
 
 -- one skeleton pair more, at the start of the chain
-module _ (P : Plan) (S : Sound P) (x z z′ : Flow) (cur to k i : ℕ) (l : i < P .pairs) (bare : T (skeleton P i)) (ends : P .later i ≡ cur) (more : (j : ℕ) → j < P .pairs → z′ j ≡ z j + on (eqb i j) k) (c : Carried P x z cur to k) where
+module _ (P : Plan) (S : Sound P) (x z z′ : Flow) (cur to k i : ℕ) (l : i < P .pairs) (bare : T (skeleton P i)) (ends : P .later i ≡ cur)
+    (more : (j : ℕ) → j < P .pairs → z′ j ≡ z j + on (eqb i j) k) (c : Carried P x z cur to k) where
   back : Before P (P .earlier i) cur
   back = subst (λ (y : ℕ). Before P (P .earlier i) y) ends (pair i l)
 
@@ -58,7 +59,11 @@ module _ (P : Plan) (S : Sound P) (x z z′ : Flow) (cur to k i : ℕ) (l : i < 
         fresh = λ j h b.
             let up : Before P (P .later j) cur = ⊎-elim (λ e. subst (λ (y : ℕ). Before P y cur) (sym e) back) (λ d. chain d back) b in
             other j h (λ e. S .acyclic cur (subst (λ (y : ℕ). Before P y cur) (ap (P .later) (sym e) ∙ ends) up)) ∙ c .fresh j h (inr up);
-        most = λ j h. ⊎-elim (λ e. omega (arith, here j h (eqb→eq i j e))) (λ e. omega (arith, c .most j h, other j h (λ s. T-not (eqb i j) e (yes-eqb s)))) (decide (eqb i j));
+        most = λ j h.
+            ⊎-elim
+            (λ e. omega (arith, here j h (eqb→eq i j e)))
+            (λ e. omega (arith, c .most j h, other j h (λ s. T-not (eqb i j) e (yes-eqb s))))
+            (decide (eqb i j));
       }
     where
       enters : (a : ℕ) → entering P z′ a ≡ entering P z a + on (eqb cur a) k
@@ -78,12 +83,15 @@ carried-folds P y y′ x z u w k lu lw apart more f c =
     y′
     z
     (record {
-      balance = λ v l. omega (arith, f .balance v l, c .balance v, sum-row-more (P .events) u w k v (y v) lw, sum-column-more (P .events) u w k v (λ a. y a v) lu);
-      received = λ v l. omega (arith, f .received v l, c .arrives v, sum-column-more (P .events) u w k v (λ a. y a v) lu, none v);
+      balance = λ v l. omega (arith, f .balance v l, c .balance v, sum-row-more (P .events) u w k v (y v) lw, column v);
+      received = λ v l. omega (arith, f .received v l, c .arrives v, column v, none v);
       bare = λ i l b. c .bare i l b ∙ f .bare i l b;
     })
     (λ a b ha hb. sym (more a b ha hb))
   where
+    column : (v : ℕ) → sum (P .events) (λ a. y a v + on (eqb u a) (on (eqb w v) k)) ≡ sum (P .events) (λ a. y a v) + on (eqb w v) k
+    column v = sum-column-more (P .events) u w k v (λ a. y a v) lu
+
     none : (v : ℕ) → on (eqb u v) (on (eqb w v) k) ≡ 0
     none v =
         ⊎-elim

@@ -1,10 +1,10 @@
 -- A tokenflow on "before" folded onto the skeleton pairs is a compact tokenflow (003, theorem 2).
 use Prim.Native.Nat.{ℕ, _+_, _≤_, _<_}
 use native.Mathlib.Omega.{arith}
-use mathlib.Core.Bool.{not, _&&_}
+use mathlib.Core.Bool.{not, _&&_, _||_}
 use mathlib.Core.Logic.{⊎-elim}
 use mathlib.Core.Path.{_≡_, sym, ap, _∙_}
-use lib.Dec.{T, eqb, le→leb}
+use lib.Dec.{T, eqb, leb, le→leb}
 use mir.Facts.{yes-and, yes-eqb}
 use Rattle.finite.specs.Bounded.{decide, yes-all, yes-or-left, yes-or-right}
 use Rattle.finite.specs.Sum.{on, sum, atEnd, sum-ext}
@@ -32,10 +32,13 @@ pub folded-ext : (P : Plan) (y y′ : ℕ → ℕ → ℕ) (x : Flow) → Folded
     → ((a b : ℕ) → a < P .events → b < P .events → y a b ≡ y′ a b) → Folded P y′ x
 folded-ext P y y′ x f same =
     record {
-      balance = λ v l. omega (arith, f .balance v l, sum-ext (P .events) (λ w. y v w) (λ w. y′ v w) (λ w h. same v w l h), sum-ext (P .events) (λ u. y u v) (λ u. y′ u v) (λ u h. same u v h l));
-      received = λ v l. omega (arith, f .received v l, sum-ext (P .events) (λ u. y u v) (λ u. y′ u v) (λ u h. same u v h l));
+      balance = λ v l. omega (arith, f .balance v l, sum-ext (P .events) (y v) (y′ v) (λ w h. same v w l h), gets v l);
+      received = λ v l. omega (arith, f .received v l, gets v l);
       bare = f .bare;
     }
+  where
+    gets : (v : ℕ) → v < P .events → sum (P .events) (λ u. y u v) ≡ sum (P .events) (λ u. y′ u v)
+    gets v l = sum-ext (P .events) _ _ (λ u h. same u v h l)
 
 -- the same numbers on the pairs
 pub folded-row : (P : Plan) (y : ℕ → ℕ → ℕ) (x z : Flow) → Folded P y x → ((i : ℕ) → i < P .pairs → x i ≡ z i) → Folded P y z
@@ -68,5 +71,15 @@ module _ (N : Net) (P : Plan) (p : ℕ) (y : ℕ → ℕ → ℕ) (free share : 
         yes-and
         (rule1 N P p x && rule2 N P p x && rule3 N P p x)
         (rule4 P x)
-        (yes-and (rule1 N P p x && rule2 N P p x) (rule3 N P p x) (yes-and (rule1 N P p x) (rule2 N P p x) (r .0) (r .1)) (le→leb (shares P x) (N .opening p) (omega (arith, covered, sum-ext (P .events) (λ v. x (P .pairs + v)) share same))))
-        (yes-all (P .pairs) _ (λ i l. ⊎-elim (λ b. yes-or-left (skeleton P i) (eqb (x i) 0) b) (λ b. yes-or-right (skeleton P i) (eqb (x i) 0) (yes-eqb (f .bare i l b))) (decide (skeleton P i))))
+        (yes-and (rule1 N P p x && rule2 N P p x) (rule3 N P p x) (yes-and (rule1 N P p x) (rule2 N P p x) (r .0) (r .1)) covers)
+        (yes-all (P .pairs) _ bare)
+      where
+        covers : T (leb (shares P x) (N .opening p))
+        covers = le→leb (shares P x) (N .opening p) (omega (arith, covered, sum-ext (P .events) (λ v. x (P .pairs + v)) share same))
+
+        bare : (i : ℕ) → i < P .pairs → T (skeleton P i || eqb (x i) 0)
+        bare i l =
+            ⊎-elim
+            (λ b. yes-or-left (skeleton P i) (eqb (x i) 0) b)
+            (λ b. yes-or-right (skeleton P i) (eqb (x i) 0) (yes-eqb (f .bare i l b)))
+            (decide (skeleton P i))

@@ -1,6 +1,8 @@
 pub mod Folded
 pub mod Carried
-pub mod Filling
+pub mod FoldedTo
 pub mod Linked
 pub mod Written
 pub mod Feeding
+pub mod Promises
+pub mod FromSheet

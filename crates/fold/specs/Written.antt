@@ -3,7 +3,7 @@ use Prim.Native.Nat.{ℕ, _+_, _≤_, _<_}
 use mathlib.Core.List.{List}
 use mathlib.Core.Path.{_≡_}
 use lib.Dec.{T}
-use lib.ListN.{length, getD}
+use lib.ListN.{length, getD, set}
 use Rattle.finite.specs.Sum.{sum}
 use Rattle.plan.specs.Net.{Net, Plan}
 use Rattle.plan.specs.Flow.{valid}
@@ -14,9 +14,13 @@ use Rattle.fold.specs.Folded.{Folded, folded-valid}
 abbrev pub numbersOf : List ℕ → ℕ → ℕ
 numbersOf row i = getD row i 0
 
--- the first k numbers are 0
-pub record Zeros (row : List ℕ) (k : ℕ) : Type 0 where
-  pub zero : (i : ℕ) → i < k → getD row i 0 ≡ 0
+-- the row with k more at i
+abbrev pub raisedBy : List ℕ → ℕ → ℕ → List ℕ
+raisedBy row i k = set row i (getD row i 0 + k)
+
+-- the row has no number but 0
+pub record Zeros (row : List ℕ) : Type 0 where
+  pub zero : (i : ℕ) → getD row i 0 ≡ 0
 
 -- The first n numbers are the shares of as many events, the others are as they were.
 pub record SharesWritten (part part′ share : List ℕ) (n : ℕ) : Type 0 where

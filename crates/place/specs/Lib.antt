@@ -1,3 +1,2 @@
-pub mod Start
-pub mod Settled
-pub mod Small
+pub mod Place
+pub mod Judged

@@ -1,126 +1,90 @@
-// One place of one plan, settled over all orders: the missing count, and what shows it.
-ghost use Prim.Native.Nat.{ℕ, _-_, _<_, _≤_};
-ghost use mathlib.Core.List.{List};
+// One place of a sheet's plan, settled over all orders, and its missing count.
+ghost use Prim.Native.Nat.{_-_, _*_, _<_, _≤_};
 ghost use mathlib.Core.Path.{_≡_};
 ghost use lib.ListN.{length, set};
-ghost use Rattle.finite.specs.Filled.{Filled};
-ghost use Rattle.finite.specs.Sum.{sumOf};
-ghost use Rattle.sheet.specs.Items.{netOf, planOf};
-ghost use Rattle.sheet.specs.Faultless.{Faultless};
-ghost use Rattle.layout.specs.Counts.{CountsOf};
-ghost use Rattle.plan.specs.Net.{takenBy, givenBy};
-ghost use Rattle.marks.specs.Marks.{HasRow};
-ghost use Rattle.tokenflow.specs.Rows.{rows, Sized};
-ghost use Rattle.tokenflow.specs.Flowing.{Flowing};
-ghost use Rattle.drawing.specs.Moves.{Moved, Order};
 ghost use Rattle.closure.specs.PlanRows.{Predecessors};
-ghost use Rattle.settle.specs.Finished.{Ended};
-ghost use Rattle.place.specs.Small.{Small};
-ghost use Rattle.place.specs.Start.{Start};
-ghost use Rattle.place.specs.Settled.{Judged};
-use drawing::draw_all;
+ghost use Rattle.finite.specs.Filled.{Filled};
+ghost use Rattle.ids.specs.Lent.{was, is};
+ghost use Rattle.ids.specs.Limits.{mostEvents};
+ghost use Rattle.layout.specs.Layout.{LayoutOf};
+ghost use Rattle.sheet.specs.Faultless.{Faultless};
+ghost use Rattle.sheet.specs.Items.{planOf};
+ghost use Rattle.place.specs.Place.{givesIn, takesIn, SettledHere};
+ghost use Rattle.place.specs.Judged.{JudgedHere};
+use ids::EVENTS;
 use ids::Event;
 use ids::Place;
-use layout::Counts;
+use ids::ROWS;
+use ids::WORDS;
+use layout::Layout;
+use least::settle_rows;
 use lookup::gives;
 use lookup::label;
 use lookup::opening;
 use lookup::takes;
-use settle::settle;
 
 // What the event v gives to the place and takes from it, written at v.
-fn fill_event(s: &[u8], c: Counts, p: Place, v: usize, free: &mut [u32], share: &mut [u32])
+fn fill_event(s: &[u8], l: Layout, p: Place, v: Event, free: &mut [u32], share: &mut [u32])
     requires { ⌜ Faultless (now s) ⌝ }
-    requires { ⌜ CountsOf (now s) c ⌝ }
-    requires { ⌜ (p .0 < c .places) × (v < c .events) ⌝ }
-    requires { ⌜ (v < length (now free)) × (v < length (now share)) ⌝ }
-    ensures { λ _. ⌜ now (free .exit) ≡ set (now (free .entry)) v (givenBy (netOf (now (s .entry))) (planOf (now (s .entry))) (p .0) v) ⌝ }
-    ensures { λ _. ⌜ now (share .exit) ≡ set (now (share .entry)) v (takenBy (netOf (now (s .entry))) (planOf (now (s .entry))) (p .0) v) ⌝ }
+    requires { ⌜ LayoutOf (now s) l ⌝ }
+    requires { ⌜ (p .0 < l .places) × (v .0 < l .events) ⌝ }
+    requires { ⌜ (v .0 < length (now free)) × (v .0 < length (now share)) ⌝ }
+    ensures { λ _. ⌜ is free ≡ set (was free) (v .0) (givesIn (was s) (p .0) (v .0)) ⌝ }
+    ensures { λ _. ⌜ is share ≡ set (was share) (v .0) (takesIn (was s) (p .0) (v .0)) ⌝ }
 {
-    let t = label(s, c.places, c.transitions, Event(v));
-    free[v] = gives(s, c.places, t, p);
-    share[v] = takes(s, c.places, t, p);
+    let t = label(s, l, v);
+    let at = v.0;
+    free[at] = gives(s, l, t, p);
+    share[at] = takes(s, l, t, p);
 }
 
 // What each event gives to the place and takes from it.
-fn fill(s: &[u8], c: Counts, p: Place, free: &mut [u32], share: &mut [u32])
+fn fill(s: &[u8], l: Layout, p: Place, free: &mut [u32; EVENTS], share: &mut [u32; EVENTS])
     requires { ⌜ Faultless (now s) ⌝ }
-    requires { ⌜ CountsOf (now s) c ⌝ }
-    requires { ⌜ p .0 < c .places ⌝ }
-    requires { ⌜ (256 ≤ length (now free)) × (256 ≤ length (now share)) ⌝ }
-    ensures { λ _. ⌜ Filled (givenBy (netOf (now (s .entry))) (planOf (now (s .entry))) (p .0)) (c .events) (now (free .entry)) (now (free .exit)) ⌝ }
-    ensures { λ _. ⌜ Filled (takenBy (netOf (now (s .entry))) (planOf (now (s .entry))) (p .0)) (c .events) (now (share .entry)) (now (share .exit)) ⌝ }
+    requires { ⌜ LayoutOf (now s) l ⌝ }
+    requires { ⌜ p .0 < l .places ⌝ }
+    ensures { λ _. ⌜ Filled (givesIn (was s) (p .0)) (l .events) (was free) (is free) ⌝ }
+    ensures { λ _. ⌜ Filled (takesIn (was s) (p .0)) (l .events) (was share) (is share) ⌝ }
 {
-    for v in 0..c.events {
-        fill_event(s, c, p, v, free, share);
+    for v in 0..l.events {
+        fill_event(s, l, p, Event(v), free, share);
     }
 }
 
-// The first `count` numbers become x.
-pub fn put_words(rows: &mut [u32], count: usize, x: u32)
-    requires { ⌜ count ≤ length (now rows) ⌝ }
-    ensures { λ _. ⌜ Filled (λ i. x) count (now (rows .entry)) (now (rows .exit)) ⌝ }
-{
-    for i in 0..count {
-        rows[i] = x;
-    }
-}
-
-// The sum of the first n numbers of a row.
-fn total(row: &[u32], n: usize) -> u32
-    requires { ⌜ (n ≤ 256) × (n ≤ length (now row)) ⌝ }
-    requires { ⌜ Small (now row) n ⌝ }
-    ensures { λ r. ⌜ r ≡ sumOf (now (row .entry)) n ⌝ }
-{
-    let mut sum: u32 = 0;
-    for i in 0..n {
-        sum += row[i];
-    }
-    sum
-}
-
-// The rows before anything is drawn.
-fn prepare(
+// Settles a place of a sheet without fault. Returns what the takers lack at last, as `settle_rows` does; the lent rows hold what shows it.
+pub fn settle_place(
     s: &[u8],
-    c: Counts,
+    l: Layout,
     p: Place,
-    amount: &[u32],
-    fed: &mut [u32],
-    free: &mut [u32],
-    share: &mut [u32],
-)
-    requires { ⌜ Faultless (now s) ⌝ }
-    requires { ⌜ CountsOf (now s) c ⌝ }
-    requires { ⌜ p .0 < c .places ⌝ }
-    requires { ⌜ Sized (rows (now amount) (now fed) (now free) (now share)) ⌝ }
-    ensures { λ _. ⌜ Start (netOf (now (s .entry))) (planOf (now (s .entry))) (p .0) (rows (now (amount .entry)) (now (fed .exit)) (now (free .exit)) (now (share .exit))) ⌝ }
-{
-    fill(s, c, p, free, share);
-    put_words(fed, 2048, 0);
-}
-
-// Draws and settles. All events are marked as spare at first; those that have nothing free are unmarked when they are met.
-fn run(
-    pred: &[u32],
-    order: &[usize],
+    enough: u32,
+    pred: &[u32; ROWS],
+    order: &[usize; EVENTS],
     amount: &mut [u32],
-    fed: &mut [u32],
-    free: &mut [u32],
-    share: &mut [u32],
-    givers: &mut [u32],
-    opens: u32,
-    n: usize,
-)
-    requires { ⌜ Flowing n (now pred) (rows (now amount) (now fed) (now free) (now share)) ⌝ }
-    requires { ⌜ Order n (now pred) ⌝ }
-    requires { ⌜ n ≤ length (now order) ⌝ }
-    requires { ⌜ HasRow (now givers) 0 ⌝ }
-    ensures { λ _. ⌜ Moved n (now (pred .entry)) (rows (now (amount .entry)) (now (fed .entry)) (now (free .entry)) (now (share .entry))) (rows (now (amount .exit)) (now (fed .exit)) (now (free .exit)) (now (share .exit))) ⌝ }
-    ensures { λ _. ⌜ Ended n (now (pred .entry)) opens (rows (now (amount .exit)) (now (fed .exit)) (now (free .exit)) (now (share .exit))) (now (givers .exit)) ⌝ }
+    fed: &mut [u32; ROWS],
+    share: &mut [u32; EVENTS],
+    givers: &mut [u32; WORDS],
+) -> u32
+    requires { ⌜ Faultless (now s) ⌝ }
+    requires { ⌜ LayoutOf (now s) l ⌝ }
+    requires { ⌜ p .0 < l .places ⌝ }
+    requires { ⌜ Predecessors (planOf (now s)) (now pred) ⌝ }
+    requires { ⌜ l .events * mostEvents ≤ length (now amount) ⌝ }
+    ensures { λ r. ⌜ SettledHere s p enough pred amount fed share givers r ⌝ }
 {
-    let mut spare = [4294967295u32; 8];
-    draw_all(pred, order, amount, fed, free, share, &mut spare, n);
-    settle(pred, amount, fed, free, share, givers, opens, n);
+    let mut free = [0u32; EVENTS];
+    fill(s, l, p, &mut free, share);
+    let n = l.events;
+    settle_rows(
+        pred,
+        order,
+        amount,
+        fed,
+        &mut free,
+        share,
+        givers,
+        enough,
+        n,
+    )
 }
 
 // What is lacking above the opening count.
@@ -130,29 +94,26 @@ fn above(lacks: u32, opening: u32) -> u32
     if opening < lacks { lacks - opening } else { 0 }
 }
 
-// The missing count of a place. The rows are settled then, and `givers` marks the smallest done set if something is missing.
-pub fn settle_place(
+// The missing count of a place. `givers` marks the smallest done set if something is missing, and the other rows hold a tokenflow.
+pub fn missing_count(
     s: &[u8],
-    c: Counts,
+    l: Layout,
     p: Place,
-    pred: &[u32],
-    order: &[usize],
+    pred: &[u32; ROWS],
+    order: &[usize; EVENTS],
     amount: &mut [u32],
-    fed: &mut [u32],
-    share: &mut [u32],
-    givers: &mut [u32],
+    fed: &mut [u32; ROWS],
+    share: &mut [u32; EVENTS],
+    givers: &mut [u32; WORDS],
 ) -> u32
     requires { ⌜ Faultless (now s) ⌝ }
-    requires { ⌜ CountsOf (now s) c ⌝ }
-    requires { ⌜ p .0 < c .places ⌝ }
-    requires { ⌜ (256 ≤ length (now order)) × (length (now pred) ≡ 2048) × Predecessors (planOf (now s)) (now pred) ⌝ }
-    requires { ⌜ (65536 ≤ length (now amount)) × (2048 ≤ length (now fed)) × (256 ≤ length (now share)) × HasRow (now givers) 0 ⌝ }
-    ensures { λ r. ⌜ ((free : List ℕ) × Judged (netOf (now (s .entry))) (planOf (now (s .entry))) (p .0) (now (pred .entry)) (rows (now (amount .exit)) (now (fed .exit)) free (now (share .exit))) (now (givers .exit)) r) ⌝ }
+    requires { ⌜ LayoutOf (now s) l ⌝ }
+    requires { ⌜ p .0 < l .places ⌝ }
+    requires { ⌜ Predecessors (planOf (now s)) (now pred) ⌝ }
+    requires { ⌜ l .events * mostEvents ≤ length (now amount) ⌝ }
+    ensures { λ r. ⌜ JudgedHere s p pred amount fed share givers r ⌝ }
 {
-    let n = c.events;
-    let opens = opening(s, p);
-    let mut free = [0u32; 256];
-    prepare(s, c, p, amount, fed, &mut free, share);
-    run(pred, order, amount, fed, &mut free, share, givers, opens, n);
-    above(total(share, n), opens)
+    let opens = opening(s, l, p);
+    let lacks = settle_place(s, l, p, opens, pred, order, amount, fed, share, givers);
+    above(lacks, opens)
 }

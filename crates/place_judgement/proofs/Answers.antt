@@ -14,7 +14,7 @@ use Rattle.calls.specs.FlowRow.{flowLength, flowFault}
 use Rattle.calls.specs.Overwritten.{overwritten, at-fault, at-none}
 use Rattle.place_judgement.specs.declared.Judgement.{Judgement}
 use Rattle.place_judgement.specs.declared.Judgement.the-variants.{Fault, Runs, Short}
-use Rattle.handing.specs.Handed.{doneMark, Written}
+use Rattle.place_judgement.specs.Handed.{doneMark, Written}
 use Rattle.place_judgement.specs.Judgement.{answer, judgeFault, judgementOf, marksAfter, Handed}
 
 runs-is : (m k : ℕ) → m ≡ k → m ≡ 0 → Runs ≡ answer 0 k

@@ -7,8 +7,8 @@ use Rattle.sheet.specs.Table.{eventsOf}
 use Rattle.sheet.specs.Items.{netOf, planOf}
 use Rattle.calls.specs.Call.{rowFault}
 use Rattle.calls.specs.FlowRow.{flowFault}
-use Rattle.calls.specs.Overwritten.{overwritten, unlessFault}
-use Rattle.handing.specs.Handed.{doneMark, Written}
+use Rattle.calls.specs.Overwritten.{unlessFault}
+use Rattle.place_judgement.specs.Handed.{marksDone, Written}
 use Rattle.place_judgement.specs.declared.Judgement.{Judgement}
 use Rattle.place_judgement.specs.declared.Judgement.the-variants.{Fault, Runs, Short}
 
@@ -40,7 +40,7 @@ judgementOf s p flow marks = answer (judgeFault s p flow marks) (missing (netOf 
 -- the row of marks at return
 unfoldable pub marksAfter : List ℕ → ℕ → List ℕ → List ℕ → List ℕ
 marksAfter s p flow marks =
-    unlessFault (judgeFault s p flow marks) (overwritten (doneMark (netOf s) (planOf s) p) (eventsOf s) marks) marks
+    unlessFault (judgeFault s p flow marks) (marksDone s p marks) marks
 
 -- the flow row at return
 pub record Handed (s : List ℕ) (p : ℕ) (flow marks flow′ : List ℕ) : Type 0 where

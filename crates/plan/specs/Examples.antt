@@ -12,7 +12,7 @@ use Rattle.finite.specs.Sum.{sum, over, atEnd}
 use Rattle.plan.specs.Net.{Net, Plan}
 use Rattle.plan.specs.Order.{before, beforeBy, skeleton, paired, freeCount}
 use Rattle.plan.specs.Prefix.{prefix, front, tokens, lack, missing, need, leastOpening, smallest, endCount, runsAt}
-use Rattle.plan.specs.Flow.{inflow, outflow, shares, rule1, rule2, rule3, rule4, valid, otherwiseValid, overrun}
+use Rattle.plan.specs.Flow.{Flow, inflow, outflow, shares, rule1, rule2, rule3, rule4, valid, otherwiseValid, overrun}
 
 -- two numbers: an event as takes/gives, or a pair as (earlier, later)
 abbrev pub Two : Type 0
@@ -74,7 +74,8 @@ rightLeast e = eqb (leastOpening (netOf e) (planOf e) 0) (shares (planOf e) (at 
 -- the flow is otherwise valid and overruns by the missing count; it is valid exactly if the plan runs
 rightFlow : Example → Bool
 rightFlow e =
-    otherwiseValid (netOf e) (planOf e) 0 (at (e .flow)) && eqb (overrun (netOf e) (planOf e) 0 (at (e .flow))) (e .missing) && Bool·beq (valid (netOf e) (planOf e) 0 (at (e .flow))) (runsAt (netOf e) (planOf e) 0)
+    let x : Flow = at (e .flow) in
+    otherwiseValid (netOf e) (planOf e) 0 x && eqb (overrun (netOf e) (planOf e) 0 x) (e .missing) && Bool·beq (valid (netOf e) (planOf e) 0 x) (runsAt (netOf e) (planOf e) 0)
 
 pub agree : List Example → Bool
 agree [] = true
@@ -97,7 +98,8 @@ starred =
     ∷ []
 
 pub starred-agree : T (agree starred)
-unfolding agree rightCount rightSet rightLeast rightFlow starred holds all any sum over atEnd greatest every before beforeBy skeleton prefix front tokens lack missing need leastOpening smallest runsAt inflow outflow shares rule1 rule2 rule3 rule4 valid otherwiseValid overrun
+unfolding agree rightCount rightSet rightLeast rightFlow starred holds all any sum over atEnd greatest every before beforeBy skeleton
+    prefix front tokens lack missing need leastOpening smallest runsAt inflow outflow shares rule1 rule2 rule3 rule4 valid otherwiseValid overrun
 starred-agree = tt
 
 -- The plan of document 01's listing: its free count, and each place's end and missing count.
@@ -114,7 +116,10 @@ listingNet =
 pub listingPlan : Plan
 listingPlan = record { events = 3; label = at (0 ∷ 0 ∷ 1 ∷ []); pairs = 1; earlier = λ i. 0; later = λ i. 2 }
 
-pub listing-agrees : (freeCount listingPlan ≡ 2) × (endCount listingNet listingPlan 0 ≡ negsuc 0) × (endCount listingNet listingPlan 1 ≡ pos 1) × (endCount listingNet listingPlan 2 ≡ pos 1) × (missing listingNet listingPlan 0 ≡ 1) × (missing listingNet listingPlan 1 ≡ 0) × (missing listingNet listingPlan 2 ≡ 0)
+pub listing-agrees :
+    (freeCount listingPlan ≡ 2)
+    × (endCount listingNet listingPlan 0 ≡ negsuc 0) × (endCount listingNet listingPlan 1 ≡ pos 1) × (endCount listingNet listingPlan 2 ≡ pos 1)
+    × (missing listingNet listingPlan 0 ≡ 1) × (missing listingNet listingPlan 1 ≡ 0) × (missing listingNet listingPlan 2 ≡ 0)
 unfolding listingNet listingPlan freeCount paired endCount tokens missing lack prefix front before beforeBy all any sum over greatest
 listing-agrees = (refl, refl, refl, refl, refl, refl, refl)
 

@@ -11,7 +11,7 @@ use Rattle.sheet.specs.Faults.{faultOf}
 use Rattle.sheet.specs.Faultless.{faultless}
 use Rattle.calls.specs.Call.{lower-first, short-row, long-row}
 use Rattle.calls.specs.Overwritten.{overwritten, filled-is, at-fault, at-none}
-use Rattle.judge.specs.Counts.{missingAt}
+use Rattle.place.specs.Place.{missingAt}
 use Rattle.summary.specs.Summary.{countAt, MissingCounts}
 use Rattle.summary.specs.Laws.{total-agrees, short-agrees, verdict-agrees}
 use Rattle.plan_judgement.specs.declared.Totals.{Totals}

@@ -8,7 +8,7 @@ use Rattle.theory.specs.Missing.{missing-most}
 use Rattle.sheet.specs.Table.{placesOf, eventsOf}
 use Rattle.sheet.specs.Items.{netOf, planOf, labelAt}
 use Rattle.sheet.specs.Faultless.{Faultless, sound}
-use Rattle.judge.specs.Counts.{missingAt}
+use Rattle.place.specs.Place.{missingAt}
 
 pub most-missing : (s : List ℕ) → Faultless s → (p : ℕ) → p < placesOf s → missingAt s p ≤ 256000
 most-missing s known p l =

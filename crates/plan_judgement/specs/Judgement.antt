@@ -3,7 +3,7 @@ use Prim.Native.Nat.{ℕ, zero, suc}
 use mathlib.Core.List.{List}
 use Rattle.calls.specs.Call.{rowFault}
 use Rattle.calls.specs.Overwritten.{overwritten, unlessFault}
-use Rattle.judge.specs.Counts.{missingAt}
+use Rattle.place.specs.Place.{missingAt}
 use Rattle.sheet.specs.Faults.{faultOf}
 use Rattle.sheet.specs.Table.{placesOf}
 use Rattle.summary.specs.Summary.{totalMissing, shortPlaces, verdictOf}

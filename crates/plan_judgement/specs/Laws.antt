@@ -6,7 +6,7 @@ use mathlib.Core.Path.{_≡_, refl, sym, subst}
 use lib.Dec.{T, eqb, eqb→eq, eqb-refl}
 use Rattle.finite.specs.Bounded.{all-yes, yes-all}
 use Rattle.plan.specs.Prefix.{runsAt, runs}
-use Rattle.judge.specs.Counts.{missingAt}
+use Rattle.place.specs.Place.{missingAt}
 use Rattle.sheet.specs.Items.{netOf, planOf}
 use Rattle.sheet.specs.Table.{placesOf}
 use Rattle.summary.specs.declared.Verdict.the-variants.{Runs}

@@ -1,20 +1,28 @@
 // The plan judgement: whether a sheet's plan runs at every place of its net, and the missing count of each in a lent row.
-ghost use Prim.Native.Nat.{_≤_};
+ghost use Prim.Native.Nat.{_+_, _*_, _<_, _≤_};
 ghost use mathlib.Core.Path.{_≡_};
-ghost use lib.ListN.{length};
-ghost use Rattle.finite.specs.Filled.{Filled};
-ghost use Rattle.summary.specs.Summary.{countAt, MissingCounts};
-ghost use Rattle.sheet.specs.Items.{planOf};
-ghost use Rattle.sheet.specs.Faultless.{Faultless};
-ghost use Rattle.layout.specs.Counts.{CountsOf};
+ghost use lib.ListN.{length, set};
 ghost use Rattle.closure.specs.PlanRows.{Predecessors};
-ghost use Rattle.judge.specs.Counts.{missingAt};
+ghost use Rattle.finite.specs.Filled.{Filled};
+ghost use Rattle.ids.specs.Lent.{was, is};
+ghost use Rattle.ids.specs.Limits.{mostEvents};
+ghost use Rattle.layout.specs.Layout.{LayoutOf};
+ghost use Rattle.sheet.specs.Faultless.{Faultless};
+ghost use Rattle.sheet.specs.Items.{planOf};
+ghost use Rattle.place.specs.Place.{missingAt};
+ghost use Rattle.summary.specs.Summary.{countAt, MissingCounts};
+ghost use Rattle.plan_judgement.specs.First.{FirstTo};
 ghost use Rattle.plan_judgement.specs.Judgement.{totalsIn, answerOf, rowOf};
+use calls::with_row;
 use drawing::event_order;
 use fault::examine;
-use judge::count_places;
-use layout::Counts;
-use layout::counts_of;
+use ids::EVENTS;
+use ids::Place;
+use ids::ROWS;
+use ids::SQUARE;
+use ids::WORDS;
+use layout::Layout;
+use place::missing_count;
 use summary::Verdict;
 use summary::short_places;
 use summary::total_missing;
@@ -32,25 +40,93 @@ pub enum Answer {
     Judged(Totals),
 }
 
-// Counts what is missing at each place, with the working rows for it.
-fn count_missing(s: &[u8], c: Counts, pred: &[u32], row: &mut [u32])
+// Whether a place is short, and the marks of the done set of the first one that is.
+pub struct First {
+    pub short: bool,
+    pub done: [u32; WORDS],
+}
+
+// The missing count of the place p, as the row's number p. The places below it are known.
+fn count_place(
+    s: &[u8],
+    l: Layout,
+    p: Place,
+    pred: &[u32; ROWS],
+    order: &[usize; EVENTS],
+    amount: &mut [u32],
+    fed: &mut [u32; ROWS],
+    row: &mut [u32],
+    first: First,
+) -> First
     requires { ⌜ Faultless (now s) ⌝ }
-    requires { ⌜ CountsOf (now s) c ⌝ }
-    requires { ⌜ (length (now pred) ≡ 2048) × Predecessors (planOf (now s)) (now pred) ⌝ }
-    requires { ⌜ c .places ≤ length (now row) ⌝ }
-    ensures { λ _. ⌜ Filled (missingAt (now (s .entry))) (c .places) (now (row .entry)) (now (row .exit)) ⌝ }
+    requires { ⌜ LayoutOf (now s) l ⌝ }
+    requires { ⌜ (p .0 < l .places) × (p .0 < length (now row)) ⌝ }
+    requires { ⌜ Predecessors (planOf (now s)) (now pred) ⌝ }
+    requires { ⌜ l .events * mostEvents ≤ length (now amount) ⌝ }
+    requires { ⌜ FirstTo (now s) (p .0) first ⌝ }
+    ensures { λ _. ⌜ is row ≡ set (was row) (p .0) (missingAt (was s) (p .0)) ⌝ }
+    ensures { λ r. ⌜ FirstTo (was s) (p .0 + 1) r ⌝ }
 {
-    let mut order = [0usize; 256];
-    event_order(pred, c.events, &mut order);
-    let mut amount = [0u32; 65536];
-    let mut fed = [0u32; 2048];
-    count_places(s, c, pred, &order, &mut amount, &mut fed, row);
+    let mut share = [0u32; EVENTS];
+    let mut done = [0u32; WORDS];
+    let m = missing_count(s, l, p, pred, order, amount, fed, &mut share, &mut done);
+    let at = p.0;
+    row[at] = m;
+    if first.short {
+        return first;
+    }
+    First { short: m > 0, done }
+}
+
+// The missing count of each place, in the row's first numbers.
+fn count_places(
+    s: &[u8],
+    l: Layout,
+    pred: &[u32; ROWS],
+    order: &[usize; EVENTS],
+    amount: &mut [u32],
+    fed: &mut [u32; ROWS],
+    row: &mut [u32],
+) -> First
+    requires { ⌜ Faultless (now s) ⌝ }
+    requires { ⌜ LayoutOf (now s) l ⌝ }
+    requires { ⌜ Predecessors (planOf (now s)) (now pred) ⌝ }
+    requires { ⌜ l .events * mostEvents ≤ length (now amount) ⌝ }
+    requires { ⌜ l .places ≤ length (now row) ⌝ }
+    ensures { λ _. ⌜ Filled (missingAt (was s)) (l .places) (was row) (is row) ⌝ }
+    ensures { λ r. ⌜ FirstTo (was s) (l .places) r ⌝ }
+{
+    let none = [0u32; WORDS];
+    let mut first = First {
+        short: false,
+        done: none,
+    };
+    for p in 0..l.places {
+        first = count_place(s, l, Place(p), pred, order, amount, fed, row, first);
+    }
+    first
+}
+
+// Counts what is missing at each place of a sheet without fault, with the working rows for it.
+pub fn count_missing(s: &[u8], l: Layout, pred: &[u32; ROWS], row: &mut [u32]) -> First
+    requires { ⌜ Faultless (now s) ⌝ }
+    requires { ⌜ LayoutOf (now s) l ⌝ }
+    requires { ⌜ Predecessors (planOf (now s)) (now pred) ⌝ }
+    requires { ⌜ l .places ≤ length (now row) ⌝ }
+    ensures { λ _. ⌜ Filled (missingAt (was s)) (l .places) (was row) (is row) ⌝ }
+    ensures { λ r. ⌜ FirstTo (was s) (l .places) r ⌝ }
+{
+    let mut order = [0usize; EVENTS];
+    event_order(pred, l.events, &mut order);
+    let mut amount = [0u32; SQUARE];
+    let mut fed = [0u32; ROWS];
+    count_places(s, l, pred, &order, &mut amount, &mut fed, row)
 }
 
 // What the counts of the first n places come to.
-fn sum_up(row: &[u32], n: usize) -> Totals
+pub fn sum_up(row: &[u32], n: usize) -> Totals
     requires { ⌜ MissingCounts (now row) n × (n ≤ length (now row)) ⌝ }
-    ensures { λ r. ⌜ r ≡ totalsIn (countAt (now (row .entry))) n ⌝ }
+    ensures { λ r. ⌜ r ≡ totalsIn (countAt (was row)) n ⌝ }
 {
     let total = total_missing(row, n);
     let short = short_places(row, n);
@@ -64,20 +140,19 @@ fn sum_up(row: &[u32], n: usize) -> Totals
 
 // The plan judgement. The order is worked out once for all places.
 pub fn judge_plan(s: &[u8], row: &mut [u32]) -> Answer
-    ensures { λ r. ⌜ r ≡ answerOf (now (s .entry)) (now (row .entry)) ⌝ }
-    ensures { λ _. ⌜ now (row .exit) ≡ rowOf (now (s .entry)) (now (row .entry)) ⌝ }
+    ensures { λ r. ⌜ r ≡ answerOf (was s) (was row) ⌝ }
+    ensures { λ _. ⌜ is row ≡ rowOf (was s) (was row) ⌝ }
 {
-    let mut succ = [0u32; 2048];
-    let mut pred = [0u32; 2048];
-    let k = examine(s, &mut succ, &mut pred);
+    let mut succ = [0u32; ROWS];
+    let mut pred = [0u32; ROWS];
+    let seen = examine(s, &mut succ, &mut pred);
+    let e = with_row(seen, row.len(), seen.layout.places);
+    let k = e.fault;
     if k != 0 {
         return Answer::Fault(k);
     }
-    let c = counts_of(s);
-    if row.len() < c.places {
-        return Answer::Fault(13);
-    }
-    count_missing(s, c, &pred, row);
-    let totals = sum_up(row, c.places);
+    let l = e.layout;
+    count_missing(s, l, &pred, row);
+    let totals = sum_up(row, l.places);
     Answer::Judged(totals)
 }

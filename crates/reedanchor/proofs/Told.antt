@@ -10,7 +10,7 @@ use Rattle.sheet.specs.Table.{placesOf}
 use Rattle.sheet.specs.Faults.{faultOf}
 use Rattle.sheet.specs.Faultless.{faultless}
 use Rattle.calls.specs.Call.{lower-first, long-row}
-use Rattle.judge.specs.Counts.{missingAt}
+use Rattle.place.specs.Place.{missingAt}
 use Rattle.summary.specs.Summary.{verdictOf}
 use Rattle.plan_judgement.specs.declared.Totals.{Totals}
 use Rattle.plan_judgement.specs.Judgement.{planFault, totalsOf, answer, answerOf}

@@ -7,7 +7,7 @@ use mathlib.Core.Logic.{_↔_, ⊎-elim}
 use mathlib.Core.Path.{_≡_, refl, sym, ap, _∙_}
 use lib.Dec.{T}
 use Rattle.plan.specs.Prefix.{runs}
-use Rattle.judge.specs.Counts.{missingAt}
+use Rattle.place.specs.Place.{missingAt}
 use Rattle.sheet.specs.Table.{placesOf}
 use Rattle.ids.specs.declared.Place.{Place}
 use Rattle.sheet.specs.Items.{netOf, planOf}

@@ -2,7 +2,7 @@
 -- of the first short place. It lends the sheet alone, so that the faults are those of a sheet.
 use Prim.Native.Nat.{ℕ, zero, suc}
 use mathlib.Core.List.{List}
-use Rattle.judge.specs.Counts.{missingAt}
+use Rattle.place.specs.Place.{missingAt}
 use Rattle.sheet.specs.Faults.{faultOf}
 use Rattle.sheet.specs.Table.{placesOf}
 use Rattle.summary.specs.declared.Verdict.{Verdict}

@@ -1,78 +1,78 @@
-// Settles a place: searches and moves tokens by turns, until the opening count covers what is lacking or no giver that a taker could draw
-// on has tokens free.
+// Settles a place: searches and moves tokens by turns, until what is lacking is little enough or no giver that a taker could draw on has
+// tokens free.
 ghost use Prim.Native.Nat.{_<_, _≤_};
 ghost use mathlib.Core.Path.{_≡_};
 ghost use lib.Dec.{leb};
-ghost use lib.ListN.{length};
-ghost use Rattle.finite.specs.Filled.{Filled};
+ghost use lib.ListN.{replicate};
 ghost use Rattle.finite.specs.Sum.{sumOf};
-ghost use Rattle.marks.specs.Marks.{HasRow};
-ghost use Rattle.marks.specs.Search.{Tells};
-ghost use Rattle.tokenflow.specs.Rows.{rows};
-ghost use Rattle.tokenflow.specs.Flowing.{Flowing};
-ghost use Rattle.drawing.specs.Moves.{Moved, Order};
-ghost use Rattle.search.specs.Searched.{Room};
-ghost use Rattle.exchange.specs.Walk.{trailRows};
+ghost use Rattle.ids.specs.Lent.{was, is};
+ghost use Rattle.ids.specs.Limits.{mostEvents};
+ghost use Rattle.tokenflow.specs.Rows.{rowsWere, rowsAre};
+ghost use Rattle.drawing.specs.Moves.{Holds, Moves, Order};
+ghost use Rattle.exchange.specs.Walk.{trailWas, TellsGiver};
 ghost use Rattle.settle.specs.Finished.{Advanced, Ended, FreeSaid, HasFree, Rounded};
+use exchange::Giver;
 use exchange::walk;
-use marks::Found;
+use ids::EVENTS;
+use ids::Event;
+use ids::ROWS;
+use ids::WORDS;
 use push::push;
 use search::search;
 
 // Whether u was met and has tokens free.
-fn has_free(givers: &[u32], free: &[u32], u: usize) -> bool
-    requires { ⌜ HasRow (now givers) 0 ⌝ }
-    requires { ⌜ (u < 256) × (u < length (now free)) ⌝ }
-    ensures { λ r. ⌜ FreeSaid (now (givers .entry)) (now (free .entry)) u r ⌝ }
+fn has_free(givers: &[u32; WORDS], free: &[u32; EVENTS], u: Event) -> bool
+    requires { ⌜ u .0 < mostEvents ⌝ }
+    ensures { λ r. ⌜ FreeSaid (was givers) (was free) (u .0) r ⌝ }
 {
-    if !marks::is_marked(givers, 0, u) {
+    if !marks::is_marked(givers, 0, u.0) {
         return false;
     }
-    if free[u] == 0 {
+    let i = u.0;
+    if free[i] == 0 {
         return false;
     }
     true
 }
 
 // A giver that was met and has tokens free.
-fn find_free(givers: &[u32], free: &[u32], n: usize) -> Found
-    requires { ⌜ HasRow (now givers) 0 ⌝ }
-    requires { ⌜ (n ≤ 256) × (n ≤ length (now free)) ⌝ }
-    ensures { λ r. ⌜ Tells (HasFree (now (givers .entry)) (now (free .entry)) n) r ⌝ }
+fn find_free(givers: &[u32; WORDS], free: &[u32; EVENTS], n: usize) -> Giver
+    requires { ⌜ n ≤ mostEvents ⌝ }
+    ensures { λ r. ⌜ TellsGiver (HasFree (was givers) (was free) n) r ⌝ }
 {
     for u in 0..n {
-        if has_free(givers, free, u) {
-            return Found::At(u);
+        if has_free(givers, free, Event(u)) {
+            return Giver::At(Event(u));
         }
     }
-    Found::Nothing
+    Giver::Nothing
 }
 
 // Walks from a giver that was met and has tokens free, and then pushes what is free down the levels of the search. Returns whether there
 // was one.
 fn advance(
-    pred: &[u32],
-    givers: &[u32],
-    queue: &[usize],
-    origin: &[usize],
-    via: &[usize],
+    pred: &[u32; ROWS],
+    givers: &[u32; WORDS],
+    queue: &[usize; EVENTS],
+    origin: &[usize; EVENTS],
+    via: &[usize; EVENTS],
     amount: &mut [u32],
-    fed: &mut [u32],
-    free: &mut [u32],
-    share: &mut [u32],
+    fed: &mut [u32; ROWS],
+    free: &mut [u32; EVENTS],
+    share: &mut [u32; EVENTS],
     tail: usize,
     n: usize,
 ) -> bool
-    requires { ⌜ Flowing n (now pred) (rows (now amount) (now fed) (now free) (now share)) ⌝ }
+    requires { ⌜ Holds n pred amount fed free share ⌝ }
     requires { ⌜ Order n (now pred) ⌝ }
-    requires { ⌜ HasRow (now givers) 0 ⌝ }
-    requires { ⌜ (256 ≤ length (now queue)) × (256 ≤ length (now origin)) × (256 ≤ length (now via)) ⌝ }
-    requires { ⌜ tail ≤ 256 ⌝ }
-    ensures { λ r. ⌜ Moved n (now (pred .entry)) (rows (now (amount .entry)) (now (fed .entry)) (now (free .entry)) (now (share .entry))) (rows (now (amount .exit)) (now (fed .exit)) (now (free .exit)) (now (share .exit))) ⌝ }
-    ensures { λ r. ⌜ Advanced n (now (pred .entry)) (now (givers .entry)) (trailRows (now (queue .entry)) (now (origin .entry)) (now (via .entry))) (rows (now (amount .entry)) (now (fed .entry)) (now (free .entry)) (now (share .entry))) (rows (now (amount .exit)) (now (fed .exit)) (now (free .exit)) (now (share .exit))) r ⌝ }
+    requires { ⌜ tail ≤ mostEvents ⌝ }
+    ensures { λ _. ⌜ Moves n pred amount fed free share ⌝ }
+    ensures { λ r.
+        ⌜ Advanced n (was pred) (was givers) (trailWas queue origin via)
+        (rowsWere amount fed free share) (rowsAre amount fed free share) r ⌝ }
 {
     let found = find_free(givers, free, n);
-    let Found::At(u) = found else {
+    let Giver::At(u) = found else {
         return false;
     };
     walk(pred, queue, origin, via, amount, fed, free, share, u, n);
@@ -81,34 +81,32 @@ fn advance(
 }
 
 // Forgets by way of which place each giver was met, so that a push looks at those of the next search only.
-fn forget(via: &mut [usize])
-    requires { ⌜ 256 ≤ length (now via) ⌝ }
-    ensures { λ _. ⌜ Filled (λ u. 256) 256 (now (via .entry)) (now (via .exit)) ⌝ }
+fn forget(via: &mut [usize; EVENTS])
+    ensures { λ _. ⌜ is via ≡ replicate mostEvents mostEvents ⌝ }
 {
-    for u in 0..256usize {
-        via[u] = 256;
-    }
+    *via = [EVENTS; EVENTS];
 }
 
 // One search, and the moves that it leads to. Returns whether less is lacking now.
 fn round(
-    pred: &[u32],
+    pred: &[u32; ROWS],
     amount: &mut [u32],
-    fed: &mut [u32],
-    free: &mut [u32],
-    share: &mut [u32],
-    takers: &mut [u32],
-    givers: &mut [u32],
-    queue: &mut [usize],
-    origin: &mut [usize],
-    via: &mut [usize],
+    fed: &mut [u32; ROWS],
+    free: &mut [u32; EVENTS],
+    share: &mut [u32; EVENTS],
+    takers: &mut [u32; WORDS],
+    givers: &mut [u32; WORDS],
+    queue: &mut [usize; EVENTS],
+    origin: &mut [usize; EVENTS],
+    via: &mut [usize; EVENTS],
     n: usize,
 ) -> bool
-    requires { ⌜ Flowing n (now pred) (rows (now amount) (now fed) (now free) (now share)) ⌝ }
+    requires { ⌜ Holds n pred amount fed free share ⌝ }
     requires { ⌜ Order n (now pred) ⌝ }
-    requires { ⌜ Room (now takers) (now givers) (now queue) (now origin) (now via) ⌝ }
-    ensures { λ r. ⌜ Moved n (now (pred .entry)) (rows (now (amount .entry)) (now (fed .entry)) (now (free .entry)) (now (share .entry))) (rows (now (amount .exit)) (now (fed .exit)) (now (free .exit)) (now (share .exit))) ⌝ }
-    ensures { λ r. ⌜ Rounded n (now (pred .entry)) (rows (now (amount .entry)) (now (fed .entry)) (now (free .entry)) (now (share .entry))) (rows (now (amount .exit)) (now (fed .exit)) (now (free .exit)) (now (share .exit))) (now (takers .exit)) (now (givers .exit)) r ⌝ }
+    ensures { λ _. ⌜ Moves n pred amount fed free share ⌝ }
+    ensures { λ r.
+        ⌜ Rounded n (was pred) (rowsWere amount fed free share) (rowsAre amount fed free share)
+        (is takers) (is givers) r ⌝ }
 {
     forget(via);
     let tail = search(pred, fed, share, n, takers, givers, queue, origin, via);
@@ -127,12 +125,12 @@ fn round(
     )
 }
 
-// Whether the opening count covers what the takers lack.
-fn is_covered(share: &[u32], n: usize, opens: u32) -> bool
-    requires { ⌜ n ≤ length (now share) ⌝ }
-    ensures { λ r. ⌜ r ≡ leb (sumOf (now (share .entry)) n) opens ⌝ }
+// Whether the takers lack no more than is enough.
+fn is_covered(share: &[u32; EVENTS], n: usize, enough: u32) -> bool
+    requires { ⌜ n ≤ mostEvents ⌝ }
+    ensures { λ r. ⌜ r ≡ leb (sumOf (was share) n) enough ⌝ }
 {
-    let mut left = opens;
+    let mut left = enough;
     for w in 0..n {
         if share[w] > left {
             return false;
@@ -142,30 +140,30 @@ fn is_covered(share: &[u32], n: usize, opens: u32) -> bool
     true
 }
 
-// Rounds until the opening count covers what is lacking or the search is the last. Each but that one leaves less lacking. Where a search
-// starts it writes no origin; 256 stays there, which names no event, since later searches start at no more takers.
+// Rounds until what is lacking is within `enough` or the search is the last: the opening count is enough where only what is missing is
+// wanted, and 0 where the least opening count is. Each round but the last leaves less lacking. Where a search starts it writes no origin;
+// 256 stays there, which names no event, since later searches start at no more takers.
 pub fn settle(
-    pred: &[u32],
+    pred: &[u32; ROWS],
     amount: &mut [u32],
-    fed: &mut [u32],
-    free: &mut [u32],
-    share: &mut [u32],
-    givers: &mut [u32],
-    opens: u32,
+    fed: &mut [u32; ROWS],
+    free: &mut [u32; EVENTS],
+    share: &mut [u32; EVENTS],
+    givers: &mut [u32; WORDS],
+    enough: u32,
     n: usize,
 )
-    requires { ⌜ Flowing n (now pred) (rows (now amount) (now fed) (now free) (now share)) ⌝ }
+    requires { ⌜ Holds n pred amount fed free share ⌝ }
     requires { ⌜ Order n (now pred) ⌝ }
-    requires { ⌜ HasRow (now givers) 0 ⌝ }
-    ensures { λ _. ⌜ Moved n (now (pred .entry)) (rows (now (amount .entry)) (now (fed .entry)) (now (free .entry)) (now (share .entry))) (rows (now (amount .exit)) (now (fed .exit)) (now (free .exit)) (now (share .exit))) ⌝ }
-    ensures { λ _. ⌜ Ended n (now (pred .entry)) opens (rows (now (amount .exit)) (now (fed .exit)) (now (free .exit)) (now (share .exit))) (now (givers .exit)) ⌝ }
+    ensures { λ _. ⌜ Moves n pred amount fed free share ⌝ }
+    ensures { λ _. ⌜ Ended n (was pred) enough (rowsAre amount fed free share) (is givers) ⌝ }
 {
-    let mut takers = [0u32; 8];
-    let mut queue = [0usize; 256];
-    let mut origin = [256usize; 256];
-    let mut via = [0usize; 256];
-    while !is_covered(share, n, opens) {
-        if !round(
+    let mut takers = [0u32; WORDS];
+    let mut queue = [0usize; EVENTS];
+    let mut origin = [EVENTS; EVENTS];
+    let mut via = [0usize; EVENTS];
+    while !is_covered(share, n, enough) {
+        let less = round(
             pred,
             amount,
             fed,
@@ -177,7 +175,8 @@ pub fn settle(
             &mut origin,
             &mut via,
             n,
-        ) {
+        );
+        if !less {
             return;
         }
     }

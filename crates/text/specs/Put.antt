@@ -69,7 +69,8 @@ module _ (old : List ℕ) (at : ℕ) (word : List ℕ) where
   pub word-start : at ≤ length old → Put old old at (take 0 word) (at + 0)
   word-start l = rw add-zero (put-none old at l)
 
-  pub word-more : (row : List ℕ) (i : ℕ) → at + i < length row → i < length word → Put old row at (take i word) (at + i) → Put old (set row (at + i) (getD word i 0)) at (take (i + 1) word) (at + (i + 1))
+  pub word-more : (row : List ℕ) (i : ℕ) → at + i < length row → i < length word → Put old row at (take i word) (at + i)
+      → Put old (set row (at + i) (getD word i 0)) at (take (i + 1) word) (at + (i + 1))
   word-more row i l m h =
       rw (add-one, take-suc word i 0, ← add-one, ← add-assoc) (put-then h (put-byte row (at + i) (getD word i 0) l))
 

@@ -30,6 +30,8 @@ unfoldable pub signed : ℤ → List ℕ
 signed (pos n) = decimal n
 signed (negsuc n) = word "-" ++ decimal (suc n)
 
-examples : (word "plan 3\n" ≡ 112 ∷ 108 ∷ 97 ∷ 110 ∷ 32 ∷ 51 ∷ 10 ∷ []) × (decimal 0 ≡ word "0") × (decimal 9 ≡ word "9") × (decimal 10 ≡ word "10") × (decimal 1256000 ≡ word "1256000") × (signed (negsuc 0) ≡ word "-1")
+examples :
+    (word "plan 3\n" ≡ 112 ∷ 108 ∷ 97 ∷ 110 ∷ 32 ∷ 51 ∷ 10 ∷ [])
+    × (decimal 0 ≡ word "0") × (decimal 9 ≡ word "9") × (decimal 10 ≡ word "10") × (decimal 1256000 ≡ word "1256000") × (signed (negsuc 0) ≡ word "-1")
 unfolding word digits decimal signed
 examples = (refl, refl, refl, refl, refl, refl)

@@ -3,7 +3,7 @@ use Prim.Native.Nat.{ℕ, _+_, _-_, _≤_, _<_}
 use native.Mathlib.Nat.{le-antisymm}
 use native.Mathlib.Omega.{arith}
 use mathlib.Core.Bool.{Bool, true, false, cond, _&&_}
-use mathlib.Core.Logic.{⊎-elim}
+use mathlib.Core.Logic.{⊎-elim, _↔_}
 use mathlib.Core.Path.{_≡_, refl, sym, ap, ap₂, subst, fun-ext, _∙_}
 use lib.Dec.{T, eqb, eqb-refl, ltb}
 use lib.IntN.{ℤ, pos, _+ℤ_, _-ℤ_}
@@ -94,7 +94,14 @@ module _ (N : Net) (P : Plan) (p : ℕ) (M : Net) (Q : Plan) (q : ℕ) (s : Same
         subst
         (λ (n : ℕ). over n (reached Q D) (takenBy M Q q) ≤ taken N P p D)
         (s .events)
-        (sum-mono (P .events) _ _ (λ v l. subst (λ (t : ℕ). on (reached Q D v) t ≤ on (reached P D v) (takenBy N P p v)) (s .takes v l) (on-mono (reached Q D v) (reached P D v) (takenBy N P p v) (first-reached v))))
+        (sum-mono (P .events) _ _ at-event)
+      where
+        at-event : (v : ℕ) → v < P .events → on (reached Q D v) (takenBy M Q q v) ≤ on (reached P D v) (takenBy N P p v)
+        at-event v l =
+            subst
+            (λ (t : ℕ). on (reached Q D v) t ≤ on (reached P D v) (takenBy N P p v))
+            (s .takes v l)
+            (on-mono (reached Q D v) (reached P D v) (takenBy N P p v) (first-reached v))
 
   -- More order never raises the least opening count.
   pub least-order : ((u v : ℕ) → Before P u v → Before Q u v) → leastOpening M Q q ≤ leastOpening N P p
@@ -106,6 +113,14 @@ module _ (N : Net) (P : Plan) (p : ℕ) (M : Net) (Q : Plan) (q : ℕ) (s : Same
       (leastOpening N P p)
       (λ D w t. omega (arith, least-covers N P p D (record { below = λ v d. subst (λ (n : ℕ). v < n) (sym (s .events)) (w .below v d) }) (first-prefix order D t), first-takes order D, given-same D))
 
+-- With the same order it is the same, whatever the opening counts are.
+pub least-same : (N : Net) (P : Plan) (p : ℕ) (M : Net) (Q : Plan) (q : ℕ) → SameWeights N P p M Q q → ((u v : ℕ) → Before P u v ↔ Before Q u v)
+    → leastOpening N P p ≡ leastOpening M Q q
+least-same N P p M Q q s order =
+    le-antisymm
+    (least-order M Q q N P p (turned N P p M Q q s) (λ u v. order u v .1))
+    (least-order N P p M Q q s (λ u v. order u v .0))
+
 -- More order never raises the missing count.
 pub missing-order : (N : Net) (P Q : Plan) (p : ℕ) → MoreOrder P Q → missing N Q p ≤ missing N P p
 missing-order N P Q p m = omega (arith, missing-opening N P p, missing-opening N Q p, least-order N P p N Q p weights (m .order))
@@ -116,25 +131,14 @@ missing-order N P Q p m = omega (arith, missing-opening N P p, missing-opening N
 
 -- ---- the same weights and order
 
--- All that is said of a place depends on what each event takes and gives there, the order and the opening count alone.
-pub record SameNumbers (N : Net) (P : Plan) (p : ℕ) (M : Net) (Q : Plan) (q : ℕ) : Type 0 where
-  pub same-least : leastOpening N P p ≡ leastOpening M Q q
-  pub same-missing : missing N P p ≡ missing M Q q
-  pub same-lack : (D : Set) → lack N P p D ≡ lack M Q q D
-  pub same-smallest : smallest N P p ≡ smallest M Q q
-  pub same-end : endCount N P p ≡ endCount M Q q
-
 module _ (N : Net) (P : Plan) (p : ℕ) (M : Net) (Q : Plan) (q : ℕ) (s : SamePlace N P p M Q q) where
   back : SameWeights M Q q N P p
   back = turned N P p M Q q (s .weights)
 
-  least-alike : leastOpening N P p ≡ leastOpening M Q q
-  least-alike =
-      le-antisymm
-      (least-order M Q q N P p back (λ u v. s .order u v .1))
-      (least-order N P p M Q q (s .weights) (λ u v. s .order u v .0))
+  pub least-alike : leastOpening N P p ≡ leastOpening M Q q
+  least-alike = least-same N P p M Q q (s .weights) (s .order)
 
-  missing-alike : missing N P p ≡ missing M Q q
+  pub missing-alike : missing N P p ≡ missing M Q q
   missing-alike = omega (arith, missing-opening N P p, missing-opening M Q q, least-alike, s .opening)
 
   prefix-alike : (D : Set) → prefix P D ≡ prefix Q D
@@ -153,30 +157,30 @@ module _ (N : Net) (P : Plan) (p : ℕ) (M : Net) (Q : Plan) (q : ℕ) (s : Same
       (first-front M Q q N P p back (λ u v. s .order u v .1) D)
       (first-front N P p M Q q (s .weights) (λ u v. s .order u v .0) D)
 
-  tokens-alike : (D : Set) → tokens N P p D ≡ tokens M Q q D
+  pub tokens-alike : (D : Set) → tokens N P p D ≡ tokens M Q q D
   unfolding tokens
   tokens-alike D =
       ap₂ (λ x y. x -ℤ pos y) (ap₂ (λ x y. pos x +ℤ pos y) (s .opening) (given-same N P p M Q q (s .weights) D)) (taken-same N P p M Q q (s .weights) D)
 
-  lack-alike : (D : Set) → lack N P p D ≡ lack M Q q D
+  pub lack-alike : (D : Set) → lack N P p D ≡ lack M Q q D
   unfolding lack
   lack-alike D =
       ap₂ (λ x z. pos x -ℤ z) (ap (λ (F : Set). over (P .events) F (takenBy N P p)) (front-alike D) ∙ taken-same N P p M Q q (s .weights) (front Q D)) (tokens-alike D)
 
-  pub same-numbers : SameNumbers N P p M Q q
-  unfolding smallest endCount
-  same-numbers =
-      record {
-        same-least = least-alike;
-        same-missing = missing-alike;
-        same-lack = lack-alike;
-        same-smallest = fun-ext (λ v. ap₂ every (s .weights .events) (fun-ext (λ D. ap₂ (λ x y. (x && y) ⇒ D v) (prefix-alike D) (ap₂ (λ x y. eqb (above0 x) y) (lack-alike D) missing-alike))));
-        same-end = ap (λ (n : ℕ). tokens N P p (λ v. ltb v n)) (s .weights .events) ∙ tokens-alike (full Q);
-      }
+  pub smallest-alike : smallest N P p ≡ smallest M Q q
+  unfolding smallest
+  smallest-alike = fun-ext (λ v. ap₂ every (s .weights .events) (fun-ext (counts v)))
+    where
+      counts : (v : ℕ) (D : Set) → ((prefix P D && eqb (above0 (lack N P p D)) (missing N P p)) ⇒ D v) ≡ ((prefix Q D && eqb (above0 (lack M Q q D)) (missing M Q q)) ⇒ D v)
+      counts v D = ap₂ (λ x y. (x && y) ⇒ D v) (prefix-alike D) (ap₂ (λ x y. eqb (above0 x) y) (lack-alike D) missing-alike)
+
+  pub end-alike : endCount N P p ≡ endCount M Q q
+  unfolding endCount
+  end-alike = ap (λ (n : ℕ). tokens N P p (λ v. ltb v n)) (s .weights .events) ∙ tokens-alike (full Q)
 
 -- Other places' numbers don't matter.
 pub missing-same : (N M : Net) (P : Plan) (p : ℕ) → Labelled N P → SameAt p N M → missing N P p ≡ missing M P p
-missing-same N M P p lab s = same-numbers N P p M P p place .same-missing
+missing-same N M P p lab s = missing-alike N P p M P p place
   where
     place : SamePlace N P p M P p
     place =

@@ -11,13 +11,13 @@ use lib.Signed.{leZ}
 use mir.Facts.{and-yes, yes-and, or-yes}
 use Rattle.finite.specs.Bounded.{any, any-yes, yes-any, decide, yes-or-left, yes-or-right}
 use Rattle.finite.specs.Subset.{Set}
-use Rattle.finite.specs.Sum.{on, sum, over, on-yes, on-no, on-mono, sum-strict, sum-mono, sum-add, over-mono, over-either}
+use Rattle.finite.specs.Sum.{on, sum, over, on-yes, on-no, on-mono, sum-strict, sum-mono, sum-add, over-mono}
 use Rattle.plan.specs.Net.{Net, Plan, takenBy, givenBy}
 use Rattle.plan.specs.Order.{Before, chain, before, Sound}
 use Rattle.plan.specs.Closure.{before-test}
 use Rattle.plan.specs.Prefix.{IsPrefix, front, tokens}
 use Rattle.plan.specs.Cut.{IsCoset, IsCut, preset, Covered, Executable}
-use Rattle.theory.specs.Least.{taken}
+use Rattle.theory.specs.Least.{taken, taken-split}
 use Rattle.theory.specs.Missing.{supply}
 use Rattle.theory.specs.Prefixes.{reached, front-yes, yes-front, preset-yes, yes-preset, preset-prefix}
 use Rattle.theory.specs.Signs.{tokens-minus, le-minus}
@@ -109,7 +109,10 @@ module _ (N : Net) (P : Plan) (p : ℕ) (S : Sound P) where
   pub prefixes-cuts : ((D : Set) → IsPrefix P D → taken N P p D ≤ supply N P p D) → Executable N P p
   unfolding taken
   prefixes-cuts h =
-      record { cuts = λ C c. covered C .1 (omega (arith, h (preset P C) (preset-prefix P S C), over-either (P .events) (preset P C) (front P (preset P C)) (takenBy N P p) (λ v d f. T-not (preset P C v) (front-yes P (preset P C) v f .outside) d), over-mono (P .events) C (front P (preset P C)) (takenBy N P p) (λ v l t. cut-front C (c .coset) v t))) }
+      record { cuts = λ C c. covered C .1 (omega (arith, h (preset P C) (preset-prefix P S C), taken-split N P p (preset P C), in-front C (c .coset))) }
+    where
+      in-front : (C : Set) → IsCoset P C → over (P .events) C (takenBy N P p) ≤ over (P .events) (front P (preset P C)) (takenBy N P p)
+      in-front C c = over-mono (P .events) C (front P (preset P C)) (takenBy N P p) (λ v l t. cut-front C c v t)
 
   module _ (D : Set) (d : IsPrefix P D) where
     U : Set
@@ -146,7 +149,13 @@ module _ (N : Net) (P : Plan) (p : ℕ) (S : Sound P) where
         (U v)
         _
         (m .reaches)
-        (not-T (any (P .events) (λ z. U z && before P v z)) (λ t. let w = any-yes (P .events) _ t in let b = and-yes (U (w .0)) (before P v (w .0)) (w .2) in m .last (w .0) (w .1) (b .0) (before-test P v (w .0) .0 (b .1)))))
+        (not-T (any (P .events) (λ z. U z && before P v z)) none))
+      where
+        none : T (any (P .events) (λ z. U z && before P v z)) → ⊥
+        none t =
+            let w = any-yes (P .events) _ t in
+            let b = and-yes (U (w .0)) (before P v (w .0)) (w .2) in
+            m .last (w .0) (w .1) (b .0) (before-test P v (w .0) .0 (b .1))
 
     -- all that is before an event reached is done
     done-before : (u v : ℕ) → Before P u v → T (U v) → T (D u)
@@ -220,15 +229,19 @@ module _ (N : Net) (P : Plan) (p : ℕ) (S : Sound P) where
     cut-taken : taken N P p D ≤ takenUpTo N P p maximal
     unfolding taken over U
     cut-taken =
+        let t : ℕ → ℕ = takenBy N P p in
         omega (
           arith,
-          sum-mono (P .events) (λ v. on (reached P D v) (takenBy N P p v)) (λ v. on (maximal v) (takenBy N P p v) + on (preset P maximal v) (takenBy N P p v)) (λ v l. either-on (reached P D v) (maximal v) (preset P maximal v) (takenBy N P p v) (under v l)),
-          sum-add (P .events) (λ v. on (maximal v) (takenBy N P p v)) (λ v. on (preset P maximal v) (takenBy N P p v)),
+          sum-mono (P .events) (λ v. on (reached P D v) (t v)) (λ v. on (maximal v) (t v) + on (preset P maximal v) (t v)) each,
+          sum-add (P .events) (λ v. on (maximal v) (t v)) (λ v. on (preset P maximal v) (t v)),
         )
       where
         either-on : (b c e : Bool) (x : ℕ) → (T b → T c ⊎ T e) → on b x ≤ on c x + on e x
         either-on true c e x h = ⊎-elim (λ t. omega (arith, on-yes c x t)) (λ t. omega (arith, on-yes e x t)) (h tt)
         either-on false c e x h = omega arith
+
+        each : (v : ℕ) → v < P .events → on (reached P D v) (takenBy N P p v) ≤ on (maximal v) (takenBy N P p v) + on (preset P maximal v) (takenBy N P p v)
+        each v l = either-on (reached P D v) (maximal v) (preset P maximal v) (takenBy N P p v) (under v l)
 
     cut-supply : supply N P p (preset P maximal) ≤ supply N P p D
     unfolding supply

@@ -58,10 +58,13 @@ module _ (N : Net) (P : Plan) (p : ℕ) (S : Sound P) (x : Flow) (f : Passes N P
   summed =
       omega (
         arith,
-        sum-mono (P .events) (λ v. on (D v) (outflow P x v) + on (U v) (takenBy N P p v)) (λ v. on (U v) (inflow P x v) + on (D v) (givenBy N P p v)) (λ v l. at-event (D v) (front P D v) (outflow P x v) (takenBy N P p v) (givenBy N P p v) (inflow P x v) (f .fed v l) (f .kept v l)),
+        sum-mono (P .events) (λ v. on (D v) (outflow P x v) + on (U v) (takenBy N P p v)) (λ v. on (U v) (inflow P x v) + on (D v) (givenBy N P p v)) each,
         sum-add (P .events) (λ v. on (D v) (outflow P x v)) (λ v. on (U v) (takenBy N P p v)),
         sum-add (P .events) (λ v. on (U v) (inflow P x v)) (λ v. on (D v) (givenBy N P p v)),
       )
+    where
+      each : (v : ℕ) → v < P .events → on (D v) (outflow P x v) + on (U v) (takenBy N P p v) ≤ on (U v) (inflow P x v) + on (D v) (givenBy N P p v)
+      each v l = at-event (D v) (front P D v) (outflow P x v) (takenBy N P p v) (givenBy N P p v) (inflow P x v) (f .fed v l) (f .kept v l)
 
   -- what flows into the stage comes from its done set
   crossing : over (P .events) U (atEnd (P .pairs) (P .later) x) ≤ over (P .events) D (outflow P x)
@@ -71,8 +74,11 @@ module _ (N : Net) (P : Plan) (p : ℕ) (S : Sound P) (x : Flow) (f : Passes N P
         arith,
         over-ends (P .events) (P .pairs) U (P .later) x (S .later-named),
         over-ends (P .events) (P .pairs) D (P .earlier) x (S .earlier-named),
-        sum-mono (P .pairs) (λ i. on (U (P .later i)) (x i)) (λ i. on (D (P .earlier i)) (x i)) (λ i l. on-mono (U (P .later i)) (D (P .earlier i)) (x i) (λ u. prefix-stage P S D (λ i. true) d .into i l tt u)),
+        sum-mono (P .pairs) (λ i. on (U (P .later i)) (x i)) (λ i. on (D (P .earlier i)) (x i)) each,
       )
+    where
+      each : (i : ℕ) → i < P .pairs → on (U (P .later i)) (x i) ≤ on (D (P .earlier i)) (x i)
+      each i l = on-mono (U (P .later i)) (D (P .earlier i)) (x i) (prefix-stage P S D (λ i. true) d .into i l tt)
 
   -- The shares cover all that a done set and its front take, less what the done set gives.
   pub weak-duality : taken N P p D ≤ shares P x + given N P p D

@@ -71,8 +71,9 @@ module _ (n : ℕ) (d : Demand) where
   asked : (v : ℕ) → v < n → pick (Low v) (High v) (d .used-up v) (d .top v) ≡ least v + pick (Low v) (High v) (d .given v) (d .extra v)
   unfolding least Low High low
   asked v l =
+      let high : Bool → Bool = λ c. c && (low v || ltb (d .extra v) (d .top v)) in
       subst
-      (λ (c : Bool). pick (c && low v) (c && (low v || ltb (d .extra v) (d .top v))) (d .used-up v) (d .top v) ≡ least v + pick (c && low v) (c && (low v || ltb (d .extra v) (d .top v))) (d .given v) (d .extra v))
+      (λ (c : Bool). pick (c && low v) (high c) (d .used-up v) (d .top v) ≡ least v + pick (c && low v) (high c) (d .given v) (d .extra v))
       (sym (lt-ltb v n l))
       (at-event (d .top v) (d .extra v) (d .used-up v) (d .given v) (low v) (ltb (d .extra v) (d .top v)) refl refl)
 
@@ -83,9 +84,18 @@ module _ (n : ℕ) (d : Demand) where
         tops = λ v l. omega arith;
         bottoms = λ v l. omega arith;
         unused = λ i l t. refl;
-        total = omega (arith, f .fits Low High (record { below = λ v t. ltb→lt v n (and-yes (ltb v n) _ t .0) }) (record { below = λ v t. ltb→lt v n (and-yes (ltb v n) _ t .0) }) whole, sum-ext n _ (λ v. least v + pick (Low v) (High v) (d .given v) (d .extra v)) asked, sum-add n least (λ v. pick (Low v) (High v) (d .given v) (d .extra v)));
+        total = omega (arith, f .fits Low High low-within high-within whole, sum-ext n _ (λ v. least v + kept v) asked, sum-add n least kept);
       }
     where
+      kept : ℕ → ℕ
+      kept v = pick (Low v) (High v) (d .given v) (d .extra v)
+
+      low-within : Within n Low
+      low-within = record { below = λ v t. ltb→lt v n (and-yes (ltb v n) _ t .0) }
+
+      high-within : Within n High
+      high-within = record { below = λ v t. ltb→lt v n (and-yes (ltb v n) _ t .0) }
+
       whole : Stage 0 a b used Low High
       whole = record {
         inside = λ v t. yes-and (ltb v n) _ (and-yes (ltb v n) (low v) t .0) (yes-or-left (low v) _ (and-yes (ltb v n) (low v) t .1));
@@ -123,7 +133,13 @@ module _ (n m : ℕ) (a b : ℕ → ℕ) (used : Set) (d : Demand) (M : ℕ) whe
       record {
         tops = λ v l. omega (arith, f .tops v l, put-at-end m k b x v);
         bottoms = λ v l. omega (arith, f .bottoms v l, put-at-end m k b x v, put-at-end m k a x v);
-        unused = λ i l t. below-suc m i l (λ l₁. put-other m k x i l₁ ∙ f .unused i l₁ t) (λ e. subst (λ (j : ℕ). put m k x j ≡ 0) (sym e) (put-same m k x ∙ none (subst (λ (j : ℕ). T (not (used j))) e t)));
+        unused = λ i l t.
+            below-suc
+            m
+            i
+            l
+            (λ l₁. put-other m k x i l₁ ∙ f .unused i l₁ t)
+            (λ e. subst (λ (j : ℕ). put m k x j ≡ 0) (sym e) (put-same m k x ∙ none (subst (λ (j : ℕ). T (not (used j))) e t)));
         total = f .total;
       }
 
@@ -158,15 +174,17 @@ module _ (n m : ℕ) (a b : ℕ → ℕ) (used : Set) (d : Demand) (M : ℕ) whe
     broken : (D U : Set) → Within n D → Within n U → Stage m a b used D U → T (U (b m)) → T (not (D (a m))) → left D U ≤ right D U + shortfall
     unfolding short shortfall
     broken D U w z s u t =
+        let passes = yes-and (stage n m a b used D U) _ (yes-stage n m a b used D U s) (yes-and (U (b m)) (not (D (a m))) u t) in
         omega (
           arith,
           greatest-bounds n (λ E. greatest n (λ W. short E W)) D w,
           greatest-bounds n (λ W. short D W) U z,
-          on-yes (stage n m a b used D U && (U (b m) && not (D (a m)))) (left D U - right D U) (yes-and (stage n m a b used D U) _ (yes-stage n m a b used D U s) (yes-and (U (b m)) (not (D (a m))) u t)),
+          on-yes (stage n m a b used D U && (U (b m) && not (D (a m)))) (left D U - right D U) passes,
         )
 
     -- the union and the intersection of a broken and a burdened stage are unbroken
-    crossed : (D U E W : Set) → Within n D → Within n U → Within n E → Within n W → Stage m a b used D U → Stage m a b used E W → T (not (W (b m))) → T (E (a m)) → left D U + left E W ≤ right D U + right E W
+    crossed : (D U E W : Set) → Within n D → Within n U → Within n E → Within n W → Stage m a b used D U → Stage m a b used E W
+        → T (not (W (b m))) → T (E (a m)) → left D U + left E W ≤ right D U + right E W
     unfolding left right
     crossed D U E W wd wu we ww s r t u =
         omega (
@@ -254,14 +272,23 @@ module _ (n m : ℕ) (a b : ℕ → ℕ) (used : Set) (d : Demand) (M : ℕ) whe
     shed : Fits n m a b used (carried d (a m) (b m) load) M
     unfolding left right
     shed =
-        record { fits = λ D U w z s. omega (arith, balance D U w z s, picked-done n D U (d .used-up) (d .top) (a m) load a-named, picked-top n D U (d .given) (d .extra) (b m) load b-named (s .inside)) }
+        record {
+          fits = λ D U w z s.
+              omega (
+                arith,
+                balance D U w z s,
+                picked-done n D U (d .used-up) (d .top) (a m) load a-named,
+                picked-top n D U (d .given) (d .extra) (b m) load b-named (s .inside),
+              );
+        }
 
 -- a pair that isn't used carries nothing
 load-unused : (n m : ℕ) (a b : ℕ → ℕ) (used : Set) (d : Demand) (M : ℕ) → T (not (used m)) → load n m a b used d M ≡ 0
 unfolding load
 load-unused n m a b used d M t = on-no (used m) (shortfall n m a b used d M) (T-not (used m) t)
 
-pub flow-exists : (n m : ℕ) (a b : ℕ → ℕ) (used : Set) (d : Demand) (M : ℕ) → ((i : ℕ) → i < m → a i < n) → ((i : ℕ) → i < m → b i < n) → Fits n m a b used d M → (x : ℕ → ℕ) × (s : ℕ → ℕ) × Meets n m a b used d M x s
+pub flow-exists : (n m : ℕ) (a b : ℕ → ℕ) (used : Set) (d : Demand) (M : ℕ) → ((i : ℕ) → i < m → a i < n) → ((i : ℕ) → i < m → b i < n)
+    → Fits n m a b used d M → (x : ℕ → ℕ) × (s : ℕ → ℕ) × Meets n m a b used d M x s
 flow-exists n zero a b used d M ha hb f = (λ i. 0, least n d, base n d a b used M f)
 flow-exists n (suc m) a b used d M ha hb f =
     let k : ℕ = load n m a b used d M in

@@ -27,7 +27,14 @@ module _ (n : ℕ) (test : Set → Bool) (z : Set → ℤ) (a b : Set → ℕ) (
 
   pub greatest-within : (M : ℕ) → ((D : Set) → Within n D → T (test D) → a D ≤ M + b D) → greatest n (λ E. on (test E) (above0 (z E))) ≤ M
   greatest-within M h =
-      greatest-least n (λ E. on (test E) (above0 (z E))) M (λ D w. ⊎-elim (λ t. omega (arith, h D w t, on-le (test D) (above0 (z D)), difference D)) (λ t. omega (arith, on-no (test D) (above0 (z D)) (T-not (test D) t))) (decide (test D)))
+      greatest-least n (λ E. on (test E) (above0 (z E))) M each
+    where
+      each : (D : Set) → Within n D → on (test D) (above0 (z D)) ≤ M
+      each D w =
+          ⊎-elim
+          (λ t. omega (arith, h D w t, on-le (test D) (above0 (z D)), difference D))
+          (λ t. omega (arith, on-no (test D) (above0 (z D)) (T-not (test D) t)))
+          (decide (test D))
 
   -- it is reached, if any set passes
   pub greatest-reached : (E : Set) → Within n E → T (test E) → (D : Set) × Within n D × T (test D) × (a D - b D ≡ greatest n (λ F. on (test F) (above0 (z F))))

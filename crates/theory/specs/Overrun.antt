@@ -3,7 +3,7 @@
 use Prim.Native.Nat.{ℕ, _+_, _-_, _≤_, _<_}
 use native.Mathlib.Nat.{le-antisymm, add-sub-cancel-left}
 use native.Mathlib.Omega.{arith}
-use mathlib.Core.Bool.{Bool, cond, _&&_}
+use mathlib.Core.Bool.{Bool, cond, not, _&&_}
 use mathlib.Core.Logic.{⊎-elim}
 use mathlib.Core.Path.{_≡_, sym, ap, subst, _∙_}
 use lib.Dec.{T, eqb, eqb-refl, ltb}
@@ -39,7 +39,16 @@ module _ (N : Net) (P : Plan) (p : ℕ) (S : Sound P) where
   fit : Fits (P .events) (P .pairs) (P .earlier) (P .later) (skeleton P) asked (leastOpening N P p)
   unfolding asked taken
   fit =
-      record { fits = λ D U w z s. omega (arith, least-bounds N P p S D (stage-prefix P S D U w s), picked-same (P .events) D U (takenBy N P p) (s .inside), picked-only (P .events) D U (givenBy N P p), over-mono (P .events) U (reached P D) (takenBy N P p) (λ v l u. stage-reached P S D U w s v u)) }
+      record {
+        fits = λ D U w z s.
+            omega (
+              arith,
+              least-bounds N P p S D (stage-prefix P S D U w s),
+              picked-same (P .events) D U (takenBy N P p) (s .inside),
+              picked-only (P .events) D U (givenBy N P p),
+              over-mono (P .events) U (reached P D) (takenBy N P p) (λ v l u. stage-reached P S D U w s v u),
+            );
+      }
 
   -- numbers on the pairs and shares as one row
   joined : (ℕ → ℕ) → (ℕ → ℕ) → Flow
@@ -70,7 +79,10 @@ module _ (N : Net) (P : Plan) (p : ℕ) (S : Sound P) where
     fourth : T (rule4 P (joined x s))
     unfolding rule4
     fourth =
-        yes-all (P .pairs) _ (λ i l. ⊎-elim (λ t. yes-or-left (skeleton P i) _ t) (λ t. yes-or-right (skeleton P i) _ (subst (λ (y : ℕ). T (eqb y 0)) (sym (joined-pair x s i l ∙ m .unused i l t)) (eqb-refl 0))) (decide (skeleton P i)))
+        yes-all (P .pairs) _ (λ i l. ⊎-elim (λ t. yes-or-left (skeleton P i) _ t) (λ t. yes-or-right (skeleton P i) _ (empty-pair i l t)) (decide (skeleton P i)))
+      where
+        empty-pair : (i : ℕ) → i < P .pairs → T (not (skeleton P i)) → T (eqb (joined x s i) 0)
+        empty-pair i l t = subst (λ (y : ℕ). T (eqb y 0)) (sym (joined-pair x s i l ∙ m .unused i l t)) (eqb-refl 0)
 
     few : shares P (joined x s) ≤ leastOpening N P p
     unfolding shares
@@ -83,7 +95,8 @@ module _ (N : Net) (P : Plan) (p : ℕ) (S : Sound P) where
       let w = flow-exists (P .events) (P .pairs) (P .earlier) (P .later) (skeleton P) asked (leastOpening N P p) (S .earlier-named) (S .later-named) fit in
       let x : Flow = joined (w .0) (w .1) in
       let r = passes-rules N P p x (passes (w .0) (w .1) (w .2)) in
-      let t : T (rule1 N P p x && rule2 N P p x && rule4 P x) = yes-and (rule1 N P p x && rule2 N P p x) (rule4 P x) (yes-and (rule1 N P p x) (rule2 N P p x) (r .0) (r .1)) (fourth (w .0) (w .1) (w .2)) in
+      let both = yes-and (rule1 N P p x) (rule2 N P p x) (r .0) (r .1) in
+      let t : T (rule1 N P p x && rule2 N P p x && rule4 P x) = yes-and (rule1 N P p x && rule2 N P p x) (rule4 P x) both (fourth (w .0) (w .1) (w .2)) in
       (x, t, le-antisymm (few (w .0) (w .1) (w .2)) (shares-bounds x t))
 
   -- So no flow otherwise valid overruns by fewer than the missing count, and some by exactly as many.

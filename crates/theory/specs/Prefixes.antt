@@ -30,7 +30,10 @@ module _ (P : Plan) (D : Set) where
   pub closed-prefix : Closed P D → T (prefix P D)
   unfolding prefix
   closed-prefix c =
-      yes-all (P .events) _ (λ v lv. yes-all (P .events) _ (λ u lu. yes-imp (D v && before P u v) (D u) (λ t. let h = and-yes (D v) (before P u v) t in c .closed u v lu lv (before-test P u v .0 (h .1)) (h .0))))
+      yes-all (P .events) _ (λ v lv. yes-all (P .events) _ (λ u lu. yes-imp (D v && before P u v) (D u) (into u v lu lv)))
+    where
+      into : (u v : ℕ) → u < P .events → v < P .events → T (D v && before P u v) → T (D u)
+      into u v lu lv t = let h = and-yes (D v) (before P u v) t in c .closed u v lu lv (before-test P u v .0 (h .1)) (h .0)
 
   -- an event of the front: outside, with all that is before it inside
   pub record InFront (v : ℕ) : Type 0 where
@@ -98,7 +101,11 @@ module _ (P : Plan) (S : Sound P) (D : Set) where
   prefix-stage used p =
       record {
         inside = λ v d. yes-or-left (D v) (front P D v) d;
-        into = λ i l g u. ⊎-elim (λ d. p .closed (P .earlier i) (P .later i) (pair i l) d) (λ f. front-yes P D (P .later i) f .ready (P .earlier i) (S .earlier-named i l) (pair i l)) (or-yes (D (P .later i)) (front P D (P .later i)) u);
+        into = λ i l g u.
+            ⊎-elim
+            (λ d. p .closed (P .earlier i) (P .later i) (pair i l) d)
+            (λ f. front-yes P D (P .later i) f .ready (P .earlier i) (S .earlier-named i l) (pair i l))
+            (or-yes (D (P .later i)) (front P D (P .later i)) u);
       }
 
   module _ (U : Set) (w : Within (P .events) D) (s : Stage (P .pairs) (P .earlier) (P .later) (skeleton P) D U) where

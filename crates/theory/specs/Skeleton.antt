@@ -45,7 +45,8 @@ module _ (P : Plan) where
     between w v = sum (P .events) (λ z. on (before P w z && before P z v) 1)
 
     -- fewer, where all that lies between w′ and v′ lies between w and v, and y only there
-    fewer : (w v w′ v′ y : ℕ) → ((z : ℕ) → Before P w′ z → Before P z v′ → Before P w z × Before P z v) → Before P w y → Before P y v → (Before P w′ y → Before P y v′ → ⊥) → between w′ v′ < between w v
+    fewer : (w v w′ v′ y : ℕ) → ((z : ℕ) → Before P w′ z → Before P z v′ → Before P w z × Before P z v) → Before P w y → Before P y v
+        → (Before P w′ y → Before P y v′ → ⊥) → between w′ v′ < between w v
     unfolding between
     fewer w v w′ v′ y sub b c none =
         sum-strict
@@ -90,7 +91,7 @@ module _ (P : Plan) where
         let r = and-yes (before P (P .earlier i) (z .0)) (before P (z .0) (P .later i)) (z .2) in
         let j = last-pair (before-test P (z .0) (P .later i) .0 (r .1)) in
         let b : Before P (P .earlier i) (P .earlier (j .index)) = onward (before-test P (P .earlier i) (z .0) .0 (r .0)) (j .starts) in
-        let c : between (P .earlier (j .index)) (P .later (j .index)) < between (P .earlier i) (P .later (j .index)) = later-start (P .earlier i) (P .earlier (j .index)) (P .later (j .index)) b (pair (j .index) (j .named)) in
+        let c = later-start (P .earlier i) (P .earlier (j .index)) (P .later (j .index)) b (pair (j .index) (j .named)) in
         earlier-start
         (P .earlier i)
         (P .earlier (j .index))

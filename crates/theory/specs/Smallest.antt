@@ -81,9 +81,10 @@ module _ (N : Net) (P : Plan) (p : ℕ) (S : Sound P) where
     both-tight : Tight (both D E)
     both-tight =
         let b = stage-prefix P S (both D E) (both U W) met-within met in
+        let o = stage-prefix P S (either D E) (either U W) joined-within joined in
         record {
           prefixed = b;
-          full = omega (arith, takes-add, gives-add, d .full, e .full, missing-bounds N P p S (both D E) b, missing-bounds N P p S (either D E) (stage-prefix P S (either D E) (either U W) joined-within joined));
+          full = omega (arith, takes-add, gives-add, d .full, e .full, missing-bounds N P p S (both D E) b, missing-bounds N P p S (either D E) o);
         }
 
   -- the test in the definition of the smallest set
@@ -139,11 +140,11 @@ module _ (N : Net) (P : Plan) (p : ℕ) (S : Sound P) where
         let w = some-tight in
         ⊎-elim
         (λ t. test-tight short (best .0) (best .1) t)
-        (λ t. absurd (falls (omega (arith, greatest-bounds (P .events) worth (w .0) (within P (w .0) (w .1 .prefixed)), worth-tight (w .0) (w .1), small (w .0), best .2, on-no (test (best .0)) (suc most - size (best .0)) (T-not (test (best .0)) t)))))
+        (λ t.
+        let none = on-no (test (best .0)) (suc most - size (best .0)) (T-not (test (best .0)) t) in
+        let beaten : ⊥ = omega (arith, greatest-bounds (P .events) worth (w .0) (within P (w .0) (w .1 .prefixed)), worth-tight (w .0) (w .1), small (w .0), best .2, none) in
+        absurd beaten)
         (decide (test (best .0)))
-      where
-        falls : 1 ≤ 0 → ⊥
-        falls h = omega arith
 
     -- the tight set of the fewest events is contained in every other
     least-inside : (E : Set) → Tight E → (v : ℕ) → T (Least v) → T (E v)
@@ -163,8 +164,14 @@ module _ (N : Net) (P : Plan) (p : ℕ) (S : Sound P) where
               worth-tight Least least-tight,
               small Least,
               small (both Least E),
-              sum-strict (P .events) (λ w. on (Least w && E w) 1) (λ w. on (Least w) 1) (λ w l. on-mono (Least w && E w) (Least w) 1 (λ h. and-yes (Least w) (E w) h .0)) v (best .1 .below v t) (omega (arith, on-no (Least v && E v) 1 (λ h. T-not (E v) y (and-yes (Least v) (E v) h .1)), on-yes (Least v) 1 t)),
+              sum-strict (P .events) (λ w. on (Least w && E w) 1) (λ w. on (Least w) 1) part v (best .1 .below v t) (omega (arith, left-out y, on-yes (Least v) 1 t)),
             )
+          where
+            part : (w : ℕ) → w < P .events → on (Least w && E w) 1 ≤ on (Least w) 1
+            part w l = on-mono (Least w && E w) (Least w) 1 (λ h. and-yes (Least w) (E w) h .0)
+
+            left-out : T (not (E v)) → on (Least v && E v) 1 ≡ 0
+            left-out z = on-no (Least v && E v) 1 (λ h. T-not (E v) z (and-yes (Least v) (E v) h .1))
 
     -- it is what they all have in common
     least-is : smallest N P p ≡ Least

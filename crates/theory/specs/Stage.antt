@@ -69,7 +69,8 @@ pick-modular false false true true x y h k = refl
 pick-modular false false false true x y h k = refl
 pick-modular false false false false x y h k = refl
 
-pub picked-modular : (n : ℕ) (D U E W : Set) (f g : ℕ → ℕ) → ((v : ℕ) → T (D v) → T (U v)) → ((v : ℕ) → T (E v) → T (W v)) → picked n D U f g + picked n E W f g ≡ picked n (both D E) (both U W) f g + picked n (either D E) (either U W) f g
+pub picked-modular : (n : ℕ) (D U E W : Set) (f g : ℕ → ℕ) → ((v : ℕ) → T (D v) → T (U v)) → ((v : ℕ) → T (E v) → T (W v))
+    → picked n D U f g + picked n E W f g ≡ picked n (both D E) (both U W) f g + picked n (either D E) (either U W) f g
 unfolding picked
 picked-modular n D U E W f g h k =
     sym (sum-add n (λ v. pick (D v) (U v) (f v) (g v)) (λ v. pick (E v) (W v) (f v) (g v)))
@@ -92,16 +93,23 @@ pick-top false false x y z h = refl
 pub picked-done : (n : ℕ) (D U : Set) (f g : ℕ → ℕ) (w k : ℕ) → w < n → picked n D U (λ v. f v + on (eqb w v) k) g ≡ picked n D U f g + on (D w) k
 unfolding picked
 picked-done n D U f g w k l =
-    sum-ext n _ (λ v. pick (D v) (U v) (f v) (g v) + on (eqb w v) (on (D v) k)) (λ v _. pick-done (D v) (U v) (f v) (g v) (on (eqb w v) k) ∙ ap (λ (z : ℕ). pick (D v) (U v) (f v) (g v) + z) (on-swap (D v) (eqb w v) k))
+    sum-ext n _ (λ v. pick (D v) (U v) (f v) (g v) + on (eqb w v) (on (D v) k)) each
     ∙ sum-add n (λ v. pick (D v) (U v) (f v) (g v)) (λ v. on (eqb w v) (on (D v) k))
     ∙ ap (λ (z : ℕ). picked n D U f g + z) (sum-one n w (λ v. on (D v) k) l)
+  where
+    each : (v : ℕ) → v < n → pick (D v) (U v) (f v + on (eqb w v) k) (g v) ≡ pick (D v) (U v) (f v) (g v) + on (eqb w v) (on (D v) k)
+    each v _ = pick-done (D v) (U v) (f v) (g v) (on (eqb w v) k) ∙ ap (λ (z : ℕ). pick (D v) (U v) (f v) (g v) + z) (on-swap (D v) (eqb w v) k)
 
-pub picked-top : (n : ℕ) (D U : Set) (f g : ℕ → ℕ) (w k : ℕ) → w < n → ((v : ℕ) → T (D v) → T (U v)) → picked n D U (λ v. f v + on (eqb w v) k) (λ v. g v + on (eqb w v) k) ≡ picked n D U f g + on (U w) k
+pub picked-top : (n : ℕ) (D U : Set) (f g : ℕ → ℕ) (w k : ℕ) → w < n → ((v : ℕ) → T (D v) → T (U v))
+    → picked n D U (λ v. f v + on (eqb w v) k) (λ v. g v + on (eqb w v) k) ≡ picked n D U f g + on (U w) k
 unfolding picked
 picked-top n D U f g w k l h =
-    sum-ext n _ (λ v. pick (D v) (U v) (f v) (g v) + on (eqb w v) (on (U v) k)) (λ v _. pick-top (D v) (U v) (f v) (g v) (on (eqb w v) k) (h v) ∙ ap (λ (z : ℕ). pick (D v) (U v) (f v) (g v) + z) (on-swap (U v) (eqb w v) k))
+    sum-ext n _ (λ v. pick (D v) (U v) (f v) (g v) + on (eqb w v) (on (U v) k)) each
     ∙ sum-add n (λ v. pick (D v) (U v) (f v) (g v)) (λ v. on (eqb w v) (on (U v) k))
     ∙ ap (λ (z : ℕ). picked n D U f g + z) (sum-one n w (λ v. on (U v) k) l)
+  where
+    each : (v : ℕ) → v < n → pick (D v) (U v) (f v + on (eqb w v) k) (g v + on (eqb w v) k) ≡ pick (D v) (U v) (f v) (g v) + on (eqb w v) (on (U v) k)
+    each v _ = pick-top (D v) (U v) (f v) (g v) (on (eqb w v) k) (h v) ∙ ap (λ (z : ℕ). pick (D v) (U v) (f v) (g v) + z) (on-swap (U v) (eqb w v) k)
 
 -- what a stage takes, where done and top events take alike
 pub picked-same : (n : ℕ) (D U : Set) (f : ℕ → ℕ) → ((v : ℕ) → T (D v) → T (U v)) → picked n D U f f ≡ over n U f

@@ -15,11 +15,11 @@ use Rattle.finite.specs.Subset.{Set, empty}
 use Rattle.finite.specs.Sum.{over, over-mono, sum-zero}
 use Rattle.plan.specs.Net.{Net, Plan, takenBy, Labelled}
 use Rattle.plan.specs.Order.{Sound}
-use Rattle.plan.specs.Prefix.{IsPrefix, front, full, stepLack, lack, above0, missing, need, leastOpening, runsAt, runs, smallest}
+use Rattle.plan.specs.Prefix.{IsPrefix, front, full, stepLack, lack, above0, missing, need, leastOpening, runsAt, runs, smallest, endCount}
 use Rattle.plan.specs.Cut.{IsCut, preset, Executable, Execution}
 use Rattle.plan.specs.Flow.{Flow, rule1, rule2, rule3, rule4, valid, otherwiseValid, overrun, shares}
-use Rattle.plan.specs.Compare.{withMore, opensWith, MoreOrder, SameAt}
-use Rattle.theory.specs.Comparisons.{least-opens, missing-more, missing-opens, missing-order, missing-same}
+use Rattle.plan.specs.Compare.{withMore, opensWith, MoreOrder, SameAt, SameWeights, SamePlace}
+use Rattle.theory.specs.Comparisons.{least-same, missing-more, missing-opens, missing-order, missing-same, least-alike, missing-alike, lack-alike, smallest-alike, end-alike}
 use Rattle.theory.specs.Cuts.{takenUpTo, some-cut, prefixes-cuts, cuts-prefixes}
 use Rattle.theory.specs.Least.{taken, given, need-is, need-above0, least-bounds, least-attained}
 use Rattle.theory.specs.Missing.{supply, step-lack-is, lack-is, lack-above0, lack-need, missing-opening, missing-bounds, missing-attained}
@@ -72,9 +72,17 @@ pub record LeastOpening (N : Net) (P : Plan) (p : ℕ) : Type 0 where
   pub shares-reached : (x : Flow) × T (otherwiseValid N P p x) × (shares P x ≡ leastOpening N P p)
   pub not-undercut : (x : Flow) → T (otherwiseValid N P p x) → leastOpening N P p ≤ shares P x
   -- it doesn't know the opening count; lack and missing count are what need and least opening count are above that
-  pub any-opening : (k : ℕ) → leastOpening (opensWith N p k) P p ≡ leastOpening N P p
+  pub any-opening : (M : Net) (q : ℕ) → SameWeights N P p M P q → leastOpening M P q ≡ leastOpening N P p
   pub lack-above : (D : Set) → lack N P p D ≡ need N P p D -ℤ pos (N .opening p)
   pub missing-above : missing N P p ≡ leastOpening N P p - N .opening p
+
+-- All that is said of a place depends on what each event takes and gives there, the order and the opening count alone. In plans taken or not.
+pub record SameNumbers (N : Net) (P : Plan) (p : ℕ) (M : Net) (Q : Plan) (q : ℕ) : Type 0 where
+  pub same-least : leastOpening N P p ≡ leastOpening M Q q
+  pub same-missing : missing N P p ≡ missing M Q q
+  pub same-lack : (D : Set) → lack N P p D ≡ lack M Q q D
+  pub same-smallest : smallest N P p ≡ smallest M Q q
+  pub same-end : endCount N P p ≡ endCount M Q q
 
 -- Demand 3, about the definition.
 pub record LeastCount (N : Net) (P : Plan) (p : ℕ) : Type 0 where
@@ -108,13 +116,28 @@ pub runs-none : (N : Net) (P : Plan) (p : ℕ) → T (runsAt N P p) ↔ (missing
 unfolding runsAt
 runs-none N P p = (eqb→eq (missing N P p) 0, λ e. subst (λ (m : ℕ). T (eqb m 0)) (sym e) (eqb-refl 0))
 
+pub same-numbers : (N : Net) (P : Plan) (p : ℕ) (M : Net) (Q : Plan) (q : ℕ) → SamePlace N P p M Q q → SameNumbers N P p M Q q
+same-numbers N P p M Q q s =
+    record {
+      same-least = least-alike N P p M Q q s;
+      same-missing = missing-alike N P p M Q q s;
+      same-lack = lack-alike N P p M Q q s;
+      same-smallest = smallest-alike N P p M Q q s;
+      same-end = end-alike N P p M Q q s;
+    }
+
 module _ (N : Net) (P : Plan) (p : ℕ) (S : Sound P) where
   pub missing-is : IsMissing N P p (missing N P p)
   missing-is =
       record {
         bounds = λ D d. below-above0 (lack N P p D) (missing N P p) (omega (arith, missing-bounds N P p S D d, lack-above0 N P p D));
-        attained = ⊎-elim inl (λ l. let w = missing-attained N P p S in inr (w .0, w .1, positive (lack N P p (w .0)) (missing N P p) (omega (arith, w .2, lack-above0 N P p (w .0))) l)) (eq-zero-or-pos (missing N P p));
+        attained = ⊎-elim inl (λ l. inr (reached l)) (eq-zero-or-pos (missing N P p));
       }
+    where
+      reached : 0 < missing N P p → (D : Set) × IsPrefix P D × (lack N P p D ≡ pos (missing N P p))
+      reached l =
+          let w = missing-attained N P p S in
+          (w .0, w .1, positive (lack N P p (w .0)) (missing N P p) (omega (arith, w .2, lack-above0 N P p (w .0))) l)
 
   pub hardest : Hardest N P p
   unfolding lack
@@ -166,7 +189,10 @@ module _ (N : Net) (P : Plan) (p : ℕ) (S : Sound P) where
       record {
         by-prefixes = (λ t D d. no-lack D .1 (run-prefixes t D d), λ h. prefixes-run (λ D d. no-lack D .0 (h D d)));
         by-cuts = (λ t. prefixes-cuts N P p S (run-prefixes t), λ x. prefixes-run (cuts-prefixes N P p S x));
-        by-flows = (λ t. let w = overrun-attained N P p S in (w .0, valid-is (w .0) .1 (w .1, omega (arith, w .2, runs-none N P p .0 t))), λ w. let v = valid-is (w .0) .0 (w .1) in runs-none N P p .1 (omega (arith, overrun-bounds N P p S (w .0) (v .0), v .1)));
+        by-flows = (
+          λ t. let w = overrun-attained N P p S in (w .0, valid-is (w .0) .1 (w .1, omega (arith, w .2, runs-none N P p .0 t))),
+          λ w. let v = valid-is (w .0) .0 (w .1) in runs-none N P p .1 (omega (arith, overrun-bounds N P p S (w .0) (v .0), v .1)),
+        );
       }
 
   -- Where something is missing, the done sets with the greatest lack have one that is contained in all the others.
@@ -177,7 +203,9 @@ module _ (N : Net) (P : Plan) (p : ℕ) (S : Sound P) where
   need-empty : need N P p empty ≡ pos (above0 (need N P p empty))
   unfolding over
   need-empty =
-      from-zero (need N P p empty) (subst (λ (z : ℤ). T (leZ (pos 0) z)) (sym (need-is N P p empty)) (le-minus 0 (taken N P p empty) (given N P p empty) .1 (omega (arith, sum-zero (P .events) (λ v. 0) (λ v l. refl)))))
+      let none : given N P p empty ≡ 0 = sum-zero (P .events) (λ v. 0) (λ v l. refl) in
+      let from = le-minus 0 (taken N P p empty) (given N P p empty) .1 (omega (arith, none)) in
+      from-zero (need N P p empty) (subst (λ (z : ℤ). T (leZ (pos 0) z)) (sym (need-is N P p empty)) from)
     where
       from-zero : (z : ℤ) → T (leZ (pos 0) z) → z ≡ pos (above0 z)
       from-zero (pos n) t = refl
@@ -206,7 +234,7 @@ module _ (N : Net) (P : Plan) (p : ℕ) (S : Sound P) where
         );
         shares-reached = shares-attained N P p S;
         not-undercut = λ x t. omega (arith, shares-bounds N P p S x t);
-        any-opening = least-opens N P p;
+        any-opening = λ M q s. sym (least-same N P p M P q s (λ u v. (λ b. b, λ b. b)));
         lack-above = lack-need N P p;
         missing-above = missing-opening N P p;
       }

@@ -121,9 +121,18 @@ module _ (N : Net) (P : Plan) (p : ℕ) (S : Sound P) (y : ℕ → ℕ → ℕ) 
           record {
             roots = λ w l h. in-it (reached P D w) (share w) h (shares-in w l);
             back = λ u w l r b. ⊎-elim (λ h. d .closed u w b h) (λ h. front-yes P D w h .ready u (before-earlier P S b) b) (or-yes (D w) (front P D w) r);
-            onward = λ u w lu lw t h. in-it (reached P D w) (y u w) h (sum-tight (P .events) (λ z. on (reached P D z) (y u z)) (λ z. y u z) (λ z k. on-le (reached P D z) (y u z)) (omega (arith, gifts-in u lu, on-yes (D u) (sum (P .events) (λ z. y u z)) t)) w lw);
+            onward = λ u w lu lw t h. in-it (reached P D w) (y u w) h (all-in u lu t w lw);
           }
         where
+          all-in : (u : ℕ) → u < P .events → T (D u) → (w : ℕ) → w < P .events → on (reached P D w) (y u w) ≡ y u w
+          all-in u l t =
+              sum-tight
+              (P .events)
+              (λ z. on (reached P D z) (y u z))
+              (λ z. y u z)
+              (λ z k. on-le (reached P D z) (y u z))
+              (omega (arith, gifts-in u l, on-yes (D u) (sum (P .events) (λ z. y u z)) t))
+
           in-it : (b : Bool) (x : ℕ) → 0 < x → on b x ≡ x → T b
           in-it true x l e = tt
           in-it false x l e = absurd (lt-irrefl 0 (subst (λ (z : ℕ). 0 < z) (sym e) l))
@@ -211,8 +220,9 @@ module _ (N : Net) (P : Plan) (p : ℕ) (S : Sound P) (y : ℕ → ℕ → ℕ) 
     settled-smallest short =
         let z = smallest-is N P p S short in
         let m : Set = smallest N P p in
+        let lacks : above0 (lack N P p D) ≡ missing N P p = omega (arith, lack-above0 N P p D, least-bounds N P p S D seen-prefix, seen-full, settled-least, settled-missing) in
         set-ext
         m
         D
-        (λ v t. z .least D seen-prefix (positive (lack N P p D) (missing N P p) (omega (arith, lack-above0 N P p D, least-bounds N P p S D seen-prefix, seen-full, settled-least, settled-missing)) short) v t)
+        (λ v t. z .least D seen-prefix (positive (lack N P p D) (missing N P p) lacks short) v t)
         (λ v t. s .generated (reached P m) m (tight-closed m (z .prefixed) (omega (arith, settled-missing, lack-above0 N P p m, ap above0 (z .lacks)))) v t)

@@ -145,17 +145,17 @@ lowered-exact {amount′ = amount′} {fed′ = fed′} {u = u} {w = w} {k = k} 
     left t = omega (arith, some t, r .more u w hu hw, on-yes (eqb u u) (on (eqb w w) k) (eqb-refl u), on-yes (eqb w w) k (eqb-refl w))
 
 module _ (amount fed : List ℕ) (u w k : ℕ) (hu : u < 256) (hw : w < 256) (room : u * 256 + w < length amount) where
-  stored : (fed′ : List ℕ) (x : ℕ) → MarkAdded fed fed′ u w → x ≡ fedBy amount fed u w + k → Raised amount fed (set amount (u * 256 + w) x) fed′ u w k
-  stored fed′ x more e =
+  stored : (x : ℕ) (fed′ : List ℕ) → MarkAdded fed fed′ u w → x ≡ fedBy amount fed u w + k → Raised amount fed (set amount (u * 256 + w) x) fed′ u w k
+  stored x fed′ more e =
       let i : ℕ = u * 256 + w in
       raised _ _ _ _ _ _ _ hw more (length-set amount i x) (λ j ne. getD-set-other amount i j x 0 ne) (getD-set-same amount i x 0 room ∙ e)
 
   -- k is added where the mark is set, or stored and the mark set
-  pub raised-known : T (marked fed u w) → Raised amount fed (set amount (u * 256 + w) (getD amount (u * 256 + w) 0 + k)) fed u w k
-  raised-known m = stored fed (getD amount (u * 256 + w) 0 + k) (added-again fed u w m) (omega (arith, fed-marked amount fed u w m))
+  pub raised-known : (x : ℕ) → x ≡ getD amount (u * 256 + w) 0 + k → T (marked fed u w) → Raised amount fed (set amount (u * 256 + w) x) fed u w k
+  raised-known x e m = stored x fed (added-again fed u w m) (omega (arith, fed-marked amount fed u w m))
 
-  pub raised-new : (fed′ : List ℕ) → ¬ T (marked fed u w) → MarkAdded fed fed′ u w → Raised amount fed (set amount (u * 256 + w) k) fed′ u w k
-  raised-new fed′ none more = stored fed′ k more (omega (arith, fed-unmarked amount fed u w none))
+  pub raised-new : (x : ℕ) → x ≡ k → (fed′ : List ℕ) → ¬ T (marked fed u w) → MarkAdded fed fed′ u w → Raised amount fed (set amount (u * 256 + w) x) fed′ u w k
+  raised-new x e fed′ none more = stored x fed′ more (omega (arith, fed-unmarked amount fed u w none))
 
   module _ (m : T (marked fed u w)) where
     -- k is taken away, and some is left: the amounts before, seen from those after
@@ -188,6 +188,6 @@ lowered row i k x l e =
           (decide (eqb i a));
     }
 
--- the same row with k more at i, seen from the larger one
-pub raised-back : (row : List ℕ) (i k : ℕ) → i < length row → Lowered (set row i (getD row i 0 + k)) row i k
-raised-back row i k l = record { less = raised-at row i k l }
+-- a row with k more at i, seen from that one
+pub raised-back : (row : List ℕ) (i k x : ℕ) → i < length row → x ≡ getD row i 0 + k → Lowered (set row i x) row i k
+raised-back row i k x l e = record { less = rw e (raised-at row i k l) }

@@ -1,6 +1,5 @@
 -- Rests on what exchanging none and some does (`Exchanges`): v may give back what it feeds, and w, which then lacks it, may draw it from u.
 use native.Mathlib.Omega.{arith}
-use mathlib.Core.Path.{sym, _∙_}
 use borrow.Author.Needs.{needs}
 use Rattle.tokenflow.specs.Flowing.{may-give-back}
 use Rattle.exchange.proofs.Exchanges.{exchanged-none, may, exchanged-some}
@@ -10,7 +9,7 @@ use Rattle.exchange.proofs.exchange.Tie as tie
 returns : tie.Need-returns
 returns c =
     let start : tie.Start = search in
-    exchanged-none (start .pre .0) (sym (c .before .least .ensures) ∙ c .if1 .taken)
+    exchanged-none (start .pre .0) (omega arith)
 
 give-back-requires : tie.Need-give-back-requires
 give-back-requires c κs =
@@ -30,7 +29,7 @@ returns-2 c =
     let gave : tie.After-give-back = search in
     let drew : tie.After-draw = search in
     let g = gave .give-back .ensures in
-    exchanged-some (start .pre .0) (search) (search) (search) (g .1) (g .0) (drew .draw .ensures) (search) (else1 .if1 .left) (else1 .before .least .ensures)
+    exchanged-some (start .pre .0) (search) (search) (search) (g .1) (g .0) (drew .draw .ensures) (search) (λ none. omega (arith, else1 .if1 .left)) (else1 .before .least .ensures)
 
 pub exchange-spec : {M : Type 1} → statement M
 exchange-spec =

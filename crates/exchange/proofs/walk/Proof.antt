@@ -41,7 +41,7 @@ loop-again c =
     let stepped : tie.After-walk-step Inv-loop μ-loop = search in
     let said = rw (c .before .came .given .1) at (stepped .walk-step .ensures .1) in
     let at-loop : tie.At-loop Inv-loop μ-loop = search in
-    (said .0, search (moves, needs), λ row tail met h. said .2 row tail met (at-loop .loop .inv .2 row tail met h))
+    (said .0, search (moves, needs), search (said .2, at-loop .loop .inv .2))
 
 pub walk-spec : {M : Type 1} → statement M
 walk-spec =

@@ -1,30 +1,27 @@
--- `fold::fold` meets its contract.
-use Prim.Native.Nat.{ℕ}
-use mathlib.Core.Path.{sym, subst}
-use Rattle.fold.specs.Feeding.{Foldable}
-use Rattle.fold.specs.Written.{Zeros}
+-- The row is cleared, and then every giver has its turn.
+use native.Mathlib.Omega.{arith}
 use borrow.Author.Needs.{needs}
 use Rattle.fold.proofs.fold.Statement.{statement}
 use Rattle.fold.proofs.fold.Tie as tie
 
-clear-requires : tie.Need-clear-requires
-clear-requires c κs = search needs
-
 fold-givers-requires : tie.Need-fold-givers-requires
 fold-givers-requires c κs =
-    let s = c .before .before .before .before .before .before .before .before .before .before .before in
-    let d = c .before .before .before .clear in
-    let g = s .pre in
-    ((g .0, subst (λ (m : ℕ). Foldable (g .0) (s .args .n) m (s .args .succ .now) (s .args .skel .now) (s .args .index .now) (s .args .amount .now) (s .args .fed .now)) (sym (d .kept .0)) (g .1)), subst (Zeros (d .last .0)) (sym (d .kept .0)) (d .ensures))
-
-same-length : tie.Need-same-length
-same-length c = search needs
+    let start : tie.Start = search in
+    let cleared : tie.After-clear = search in
+    let g = start .pre in
+    (omega (arith, g .1 .events, g .1 .way .few), ((g .0, g .1, omega (arith, g .2, cleared .clear .kept)), cleared .clear .ensures))
 
 returns : tie.Need-returns
 returns c =
-    let s = c .before .before .before .before .before .before .before .before .before .before .before .before .before .before in
-    let d = c .before .before .before .before .before .before .clear in
-    λ P g. c .before .before .fold-givers .ensures P (subst (λ (m : ℕ). Foldable P (s .args .n) m (s .args .succ .now) (s .args .skel .now) (s .args .index .now) (s .args .amount .now) (s .args .fed .now)) (sym (d .kept .0)) g)
+    let cleared : tie.After-clear = search in
+    let folded : tie.After-fold-givers = search in
+    λ P g m. folded .fold-givers .ensures P g (omega (arith, m, cleared .clear .kept))
 
 pub fold-spec : {M : Type 1} → statement M
-fold-spec = tie.close (tie.spec clear-requires fold-givers-requires same-length returns)
+fold-spec =
+    tie.close
+    (tie.spec
+    (λ c κs. search needs)
+    fold-givers-requires
+    (λ c. search needs)
+    returns)

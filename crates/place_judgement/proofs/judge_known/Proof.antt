@@ -4,7 +4,7 @@ use native.Mathlib.Omega.{arith}
 use mathlib.Core.Path.{ap, _∙_}
 use Rattle.sheet.specs.Items.{netOf, planOf}
 use Rattle.calls.specs.Overwritten.{overwritten}
-use Rattle.handing.specs.Handed.{doneMark}
+use Rattle.place_judgement.specs.Handed.{doneMark}
 use borrow.Author.Needs.{needs}
 use Rattle.place_judgement.proofs.Room.{room}
 use Rattle.place_judgement.proofs.judge_known.Statement.{statement}

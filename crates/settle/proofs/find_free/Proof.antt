@@ -1,10 +1,9 @@
--- `settle::find_free` meets its contract. The invariant: no giver below u was met and has tokens free.
+-- The loop's invariant: no giver below u was met and has tokens free.
 use Prim.Native.Nat.{ℕ, _-_, _≤_, _<_, zero-le}
 use native.Mathlib.Omega.{arith}
-use mathlib.Core.Path.{subst}
 use borrow.Author.Count.{below-none, below-more}
 use borrow.Author.Needs.{needs}
-use Rattle.settle.specs.Finished.{FreeSaid, HasFree}
+use Rattle.settle.specs.Finished.{HasFree}
 use Rattle.settle.proofs.find_free.Statement.{statement}
 use Rattle.settle.proofs.find_free.Tie as tie
 
@@ -14,35 +13,16 @@ Inv-loop givers free n u₀ u = (u ≤ n) × ((k : ℕ) → k < u → HasFree gi
 abbrev μ-loop : tie.MeasureT-loop
 μ-loop givers free n u₀ u = n - u
 
-loop-holds : tie.Need-loop-holds Inv-loop μ-loop
-loop-holds c = (zero-le, below-none _)
-
-has-free-requires : tie.Need-has-free-requires Inv-loop μ-loop
-has-free-requires c κs = let s = c .before .before .before .before in (s .pre .0, (omega (arith, s .pre .1 .0), omega (arith, s .pre .1 .1)))
-
 returns : tie.Need-returns Inv-loop μ-loop
 returns c =
-    let a = c .before .before .before .before .before .before .args in
-    let l = c .before .before .before .loop in
-    let h = subst (FreeSaid (a .givers .now) (a .free .now) (l .u)) (c .if1 .taken) (c .before .has-free .ensures) in
-    record { event = omega arith; met = h .0; some = h .1 }
-
-add-u : tie.Need-add-u Inv-loop μ-loop
-add-u c = search needs
-
-loop-less : tie.Need-loop-less Inv-loop μ-loop
-loop-less c = search needs
+    let has = rw (c .if1 .taken) at (c .before .has-free .ensures) in
+    record { event = omega arith; met = has .0; some = has .1 }
 
 loop-again : tie.Need-loop-again Inv-loop μ-loop
 loop-again c =
-    let a = c .before .before .before .before .before .before .args in
-    let l = c .before .before .before .loop in (
-      omega arith,
-      below-more _ _ (l .inv .1) (λ h. subst (FreeSaid (a .givers .now) (a .free .now) (l .u)) (c .if1 .left) (c .before .has-free .ensures) (h .met) (h .some)),
-    )
-
-returns-2 : tie.Need-returns-2 Inv-loop μ-loop
-returns-2 c = λ k h. c .before .loop .inv .1 k (omega (arith, h .event)) h
+    let at-loop : tie.At-loop Inv-loop μ-loop = search in
+    let none = rw (c .if1 .left) at (c .before .has-free .ensures) in
+    (omega arith, below-more _ _ (at-loop .loop .inv .1) (λ h. none (h .met) (h .some)))
 
 pub find-free-spec : {M : Type 1} → statement M
 find-free-spec =
@@ -50,10 +30,10 @@ find-free-spec =
     (tie.spec
     Inv-loop
     μ-loop
-    loop-holds
-    has-free-requires
+    (λ c. (zero-le, below-none _))
+    (λ c κs. search needs)
     returns
-    add-u
-    loop-less
+    (λ c. search needs)
+    (λ c. search needs)
     loop-again
-    returns-2)
+    (λ c k h. c .before .loop .inv .1 k (omega (arith, h .event)) h))

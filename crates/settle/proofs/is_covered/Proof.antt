@@ -1,4 +1,4 @@
--- `settle::is_covered` meets its contract. The invariant: the first shares and what is left of the opening count add up to it.
+-- The loop's invariant: the first shares and what is left of what is enough add up to it.
 use Prim.Native.Nat.{_+_, _-_, _≤_, zero-le}
 use native.Mathlib.Omega.{arith}
 use mathlib.Core.Path.{_≡_, sym, ap}
@@ -9,50 +9,30 @@ use Rattle.settle.proofs.is_covered.Statement.{statement}
 use Rattle.settle.proofs.is_covered.Tie as tie
 
 abbrev Inv-loop : tie.InvT-loop
-Inv-loop share n opens left₀ w₀ left w = (w ≤ n) × (left + sumOf share w ≡ opens)
+Inv-loop share n enough left₀ w₀ left w = (w ≤ n) × (left + sumOf share w ≡ enough)
 
 abbrev μ-loop : tie.MeasureT-loop
-μ-loop share n opens left₀ w₀ left w = n - w
-
-loop-holds : tie.Need-loop-holds Inv-loop μ-loop
-loop-holds c = (zero-le, omega (arith, sum-of-start (c .args .share .now)))
-
-mul-if1 : tie.Need-mul-if1 Inv-loop μ-loop
-mul-if1 c = search needs
-
-shared-slice-read-if1 : tie.Need-shared-slice-read-if1 Inv-loop μ-loop
-shared-slice-read-if1 c = search needs
+μ-loop share n enough left₀ w₀ left w = n - w
 
 returns : tie.Need-returns Inv-loop μ-loop
 returns c =
-    let a = c .before .before .before .before .args in
-    let l = c .before .before .before .loop in
-    sym (lt-leb (sumOf (a .share .now) (a .n)) (a .opens) (omega (arith, c .if1 .taken, l .inv .1, sum-of-more (a .share .now) (l .w), sum-of-upto (a .share .now) (l .w + 1) (a .n) (omega arith))))
-
-mul-left : tie.Need-mul-left Inv-loop μ-loop
-mul-left c = search needs
-
-shared-slice-read-left : tie.Need-shared-slice-read-left Inv-loop μ-loop
-shared-slice-read-left c = search needs
-
-sub-left : tie.Need-sub-left Inv-loop μ-loop
-sub-left c = search needs
-
-add-w : tie.Need-add-w Inv-loop μ-loop
-add-w c = search needs
-
-loop-less : tie.Need-loop-less Inv-loop μ-loop
-loop-less c = search needs
+    let l = c .before .before .before in
+    let a = l .before .args in
+    let more = sum-of-more (a .share .now) (l .loop .w) in
+    let rest = sum-of-upto (a .share .now) (l .loop .w + 1) (a .n) (omega arith) in
+    sym (lt-leb (sumOf (a .share .now) (a .n)) (a .enough) (omega arith))
 
 loop-again : tie.Need-loop-again Inv-loop μ-loop
-loop-again c = let l = c .before .before .before .before .loop in (omega arith, omega (arith, c .before .if1 .left, l .inv .1, sum-of-more (c .before .before .before .before .before .args .share .now) (l .w)))
+loop-again c =
+    let l : tie.At-loop Inv-loop μ-loop = search in
+    (omega arith, omega (arith, sum-of-more (l .before .args .share .now) (l .loop .w)))
 
 returns-2 : tie.Need-returns-2 Inv-loop μ-loop
 returns-2 c =
-    let a = c .before .before .args in
-    let l = c .before .loop in
-    let end : l .w ≡ a .n = omega arith in
-    sym (le-leb (sumOf (a .share .now) (a .n)) (a .opens) (omega (arith, l .inv .1, ap (sumOf (a .share .now)) end)))
+    let l = c .before in
+    let a = l .before .args in
+    let end : l .loop .w ≡ a .n = omega arith in
+    sym (le-leb (sumOf (a .share .now) (a .n)) (a .enough) (omega (arith, ap (sumOf (a .share .now)) end)))
 
 pub is-covered-spec : {M : Type 1} → statement M
 is-covered-spec =
@@ -60,14 +40,14 @@ is-covered-spec =
     (tie.spec
     Inv-loop
     μ-loop
-    loop-holds
-    mul-if1
-    shared-slice-read-if1
+    (λ c. (zero-le, omega (arith, sum-of-start (c .args .share .now))))
+    (λ c. search needs)
+    (λ c. search needs)
     returns
-    mul-left
-    shared-slice-read-left
-    sub-left
-    add-w
-    loop-less
+    (λ c. search needs)
+    (λ c. search needs)
+    (λ c. search needs)
+    (λ c. search needs)
+    (λ c. search needs)
     loop-again
     returns-2)

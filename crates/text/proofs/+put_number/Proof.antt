@@ -46,4 +46,7 @@ pub +put-number-spec : {M : Type 1} → statement M
     (λ c. let start : Start t = search in omega (arith, last-digit (start .args .n) (omega arith)))
     (λ c. search needs)
     (λ c. search needs)
-    (λ c. let start : Start t = search in last-put _ _ _ _ _ _ (omega arith) (c .low2 .ensures) (omega (arith, last-digit (start .args .n) (omega arith))) (c .before .before .before .put-number .ensures))
+    (λ c.
+    let start : Start t = search in
+    let fits = last-digit (start .args .n) (omega arith) in
+    last-put _ _ _ _ _ _ (omega arith) (c .low2 .ensures) (omega arith) (c .before .before .before .put-number .ensures))

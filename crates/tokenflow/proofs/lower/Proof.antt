@@ -8,8 +8,7 @@ use Rattle.tokenflow.proofs.lower.Tie as tie
 returns : tie.Need-returns
 returns c =
     let start : tie.Start = search in
-    let then1 : tie.Then1 = search in
-    left-none _ _ _ _ _ (search needs) (search needs) (search needs) (start .pre .1 .1 .0) _ (c .unmark .ensures) (then1 .if1 .taken)
+    left-none _ _ _ _ _ (search needs) (search needs) (search needs) (start .pre .1 .1 .0) _ (c .unmark .ensures) (omega arith)
 
 returns-2 : tie.Need-returns-2
 returns-2 c =

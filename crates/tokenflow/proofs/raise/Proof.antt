@@ -21,12 +21,12 @@ add-amount c =
     omega (arith, fed-marked (start .args .amount .now) _ _ _ (known (search)))
 
 returns : tie.Need-returns
-returns c = raised-known _ _ _ _ _ (search needs) (search needs) (search needs) (known (search))
+returns c = raised-known _ _ _ _ _ (search needs) (search needs) (search needs) _ (omega arith) (known (search))
 
 returns-2 : tie.Need-returns-2
 returns-2 c =
     let else1 : tie.Else1 = search in
-    raised-new _ _ _ _ _ (search needs) (search needs) (search needs) _ (subst T (sym (else1 .before .is-marked .ensures) ∙ else1 .if1 .left)) (c .mark .ensures)
+    raised-new _ _ _ _ _ (search needs) (search needs) (search needs) _ (omega arith) _ (subst T (sym (else1 .before .is-marked .ensures) ∙ else1 .if1 .left)) (c .mark .ensures)
 
 pub raise-spec : {M : Type 1} → statement M
 raise-spec =

@@ -6,9 +6,7 @@ use Rattle.tokenflow.proofs.spend.Statement.{statement}
 use Rattle.tokenflow.proofs.spend.Tie as tie
 
 returns : tie.Need-returns
-returns c =
-    let a = c .before .args in
-    lowered (a .row .now) (a .v .0) (a .k) _ (search needs) (omega arith)
+returns c = lowered _ _ _ _ (search needs) (omega arith)
 
 pub spend-spec : {M : Type 1} → statement M
 spend-spec =

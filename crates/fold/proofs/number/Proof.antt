@@ -1,0 +1,20 @@
+-- One number of the index is stored, and the others are as they were.
+use native.Mathlib.Omega.{arith}
+use borrow.Author.Needs.{needs}
+use Rattle.fold.proofs.Links.{numbered}
+use Rattle.fold.proofs.number.Statement.{statement}
+use Rattle.fold.proofs.number.Tie as tie
+
+returns : tie.Need-returns
+returns c = numbered _ _ _ _ (omega arith)
+
+pub number-spec : {M : Type 1} → statement M
+number-spec =
+    tie.close
+    (tie.spec
+    (λ c. search needs)
+    (λ c. search needs)
+    (λ c. search needs)
+    (λ c. search needs)
+    (λ c. search needs)
+    returns)

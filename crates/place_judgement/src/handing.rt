@@ -1,0 +1,122 @@
+// What a judged place hands over in the lent rows: a valid flow, or the marks of the smallest done set.
+ghost use Prim.Native.Nat.{_+_, _<_, _≤_};
+ghost use mathlib.Core.Path.{_≡_};
+ghost use lib.Dec.{T};
+ghost use lib.ListN.{length};
+ghost use Rattle.finite.specs.Filled.{Filled};
+ghost use Rattle.fold.specs.Written.{SharesFrom};
+ghost use Rattle.ids.specs.Lent.{was, is};
+ghost use Rattle.ids.specs.Limits.{mostEvents};
+ghost use Rattle.layout.specs.Layout.{LayoutOf};
+ghost use Rattle.order.specs.Rows.{OrderRows};
+ghost use Rattle.sheet.specs.Faultless.{Faultless};
+ghost use Rattle.sheet.specs.Items.{planOf};
+ghost use Rattle.place_judgement.specs.Handed.{markOf, validAt, ShownBy, Written, MarksHere};
+use fold::index_pairs;
+use fold::write_flow;
+use ids::EVENTS;
+use ids::Event;
+use ids::Place;
+use ids::ROWS;
+use ids::SQUARE;
+use ids::WORDS;
+use layout::Layout;
+use least::put_words;
+use marks::is_marked;
+
+// Writes the tokenflow of a place that lacks nothing as a flow row, by way of the skeleton pairs.
+fn hand_over(
+    s: &[u8],
+    l: Layout,
+    p: Place,
+    succ: &[u32; ROWS],
+    pred: &[u32; ROWS],
+    amount: &[u32],
+    fed: &[u32; ROWS],
+    share: &[u32; EVENTS],
+    flow: &mut [u32],
+)
+    requires { ⌜ Faultless (now s) ⌝ }
+    requires { ⌜ LayoutOf (now s) l ⌝ }
+    requires { ⌜ p .0 < l .places ⌝ }
+    requires { ⌜ OrderRows (planOf (now s)) (now succ) (now pred) ⌝ }
+    requires { ⌜ ShownBy s p pred amount fed share 0 ⌝ }
+    requires { ⌜ l .pairs + l .events ≤ length (now flow) ⌝ }
+    ensures { λ _. ⌜ T (validAt (was s) (p .0) (is flow)) ⌝ }
+    ensures { λ _. ⌜ SharesFrom (l .pairs) (was flow) (is flow) (was share) (l .events) ⌝ }
+{
+    let mut skel = [0u32; ROWS];
+    let mut index = [0usize; SQUARE];
+    index_pairs(s, l, succ, pred, &mut skel, &mut index);
+    let pairs = l.pairs;
+    let n = l.events;
+    write_flow(succ, &skel, &index, amount, fed, share, flow, pairs, n);
+}
+
+// Writes the flow row of a judged place: a valid flow if nothing is missing, else zeros.
+pub fn hand_flow(
+    s: &[u8],
+    l: Layout,
+    p: Place,
+    succ: &[u32; ROWS],
+    pred: &[u32; ROWS],
+    amount: &[u32],
+    fed: &[u32; ROWS],
+    share: &[u32; EVENTS],
+    m: u32,
+    flow: &mut [u32],
+)
+    requires { ⌜ Faultless (now s) ⌝ }
+    requires { ⌜ LayoutOf (now s) l ⌝ }
+    requires { ⌜ p .0 < l .places ⌝ }
+    requires { ⌜ OrderRows (planOf (now s)) (now succ) (now pred) ⌝ }
+    requires { ⌜ ShownBy s p pred amount fed share m ⌝ }
+    requires { ⌜ l .pairs + l .events ≤ length (now flow) ⌝ }
+    ensures { λ _. ⌜ Written (was s) (p .0) (was flow) (is flow) ⌝ }
+{
+    if m == 0 {
+        hand_over(s, l, p, succ, pred, amount, fed, share, flow);
+        return;
+    }
+    put_words(flow, l.pairs + l.events, 0);
+}
+
+// The mark of the event v: 1 if it is in the set, else 0.
+fn done_mark(set: &[u32; WORDS], v: Event) -> u8
+    requires { ⌜ v .0 < mostEvents ⌝ }
+    ensures { λ r. ⌜ r ≡ markOf (was set) (v .0) ⌝ }
+{
+    if is_marked(set, 0, v.0) { 1 } else { 0 }
+}
+
+// Marks the events of a set.
+fn write_marks(set: &[u32; WORDS], marks: &mut [u8], n: usize)
+    requires { ⌜ (n ≤ mostEvents) × (n ≤ length (now marks)) ⌝ }
+    ensures { λ _. ⌜ Filled (markOf (was set)) n (was marks) (is marks) ⌝ }
+{
+    for v in 0..n {
+        marks[v] = done_mark(set, Event(v));
+    }
+}
+
+// Marks no event.
+fn clear_marks(marks: &mut [u8], n: usize)
+    requires { ⌜ n ≤ length (now marks) ⌝ }
+    ensures { λ _. ⌜ Filled (λ v. 0) n (was marks) (is marks) ⌝ }
+{
+    for v in 0..n {
+        marks[v] = 0;
+    }
+}
+
+// Marks the done set of any place that was judged with these givers and m missing: no event if nothing is missing.
+pub fn hand_marks(givers: &[u32; WORDS], m: u32, marks: &mut [u8], n: usize)
+    requires { ⌜ (n ≤ mostEvents) × (n ≤ length (now marks)) ⌝ }
+    ensures { λ _. ⌜ MarksHere givers m marks n ⌝ }
+{
+    if m != 0 {
+        write_marks(givers, marks, n);
+        return;
+    }
+    clear_marks(marks, n);
+}
