@@ -170,7 +170,8 @@ module _ {M : Type 1} (𝓤 : URA M) (H : Heap 𝓤) (A : Atoms 𝓤) (W : Given
           assigns ! (of-opd ! (load ! (from ! (fld ! refl (stop !))) (look-in ! 6 (sub ! 0 refl (whole !))))) (from ! (stop !)) (init ! 2 refl (tt, wt .1 .0)) $
           assigns ! (of-opd ! (load ! (from ! (fld ! refl (stop !))) (look-in ! 6 (sub ! 1 refl (whole !))))) (from ! (stop !)) (init ! 0 refl (tt, wt .1 .1 .0)) $
           -- [the locals, the last first; what the sheet owns; the token]
-          move ! (10 ∷ 11 ∷ []) $ calls 𝓤 H A W callee.ended (CalleeClauses 𝓤 Asked found) (passed κ q d p) (λ r. r ≡ found (now (d .sheet)) (p .0)) (λ r e. id⊢ 𝓤 _) (fmOf 𝓤 H (W .laws) 𝓣) met refl
+          move ! (10 ∷ 11 ∷ []) $ calls 𝓤 H A W callee.ended (CalleeClauses 𝓤 Asked found) (passed κ q d p)
+          (λ r. r ≡ found (now (d .sheet)) (p .0)) (λ r e. id⊢ 𝓤 _) (fmOf 𝓤 H (W .laws) 𝓣) met refl
           (owns-make 𝓤 H A Others (Ises Others) (LL.makes N.the-type N′.the-plain 𝓤 H A, (LL.makes P.the-type P′.the-plain 𝓤 H A, tt)) (d .layout, (p, tt)) _ (is-l, (is-p, tt)))
           (asked _ _ _ (known .0) (known .1) (known .2))
           (and-then ! (load ! (from ! (stop !)) (look ! 3 refl)) (and-then ! (load ! (from ! (stop !)) (look ! 1 refl)) (and-then ! (load ! (from ! (stop !)) (look ! 5 refl)) (no-more !)))) (λ u r h is.
