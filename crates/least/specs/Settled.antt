@@ -119,9 +119,9 @@ module _ (N : Net) (P : Plan) (p n : ℕ) (pred : List ℕ) (r₀ r : Rows) (at 
           takers = d .takers-named;
           givers = λ u t. (d .givers-named u t, d .spent u t);
           closed = record {
-            roots = d .closed .roots;
-            back = λ u w l t b. let k = before-earlier P (at .sound) b in d .closed .back w u l k t (at .before .marks w u l k .1 b);
-            onward = λ u w lu lw t h. d .closed .onward u w lu lw t (is-fed u w h);
+            roots = d .exhausted .roots;
+            back = λ u w l t b. let k = before-earlier P (at .sound) b in d .exhausted .back w u l k t (at .before .marks w u l k .1 b);
+            onward = λ u w lu lw t h. d .exhausted .onward u w lu lw t (is-fed u w h);
           };
           generated = λ W E c u t.
               d .least
