@@ -48,7 +48,9 @@ module _ (P : Plan) where
   one-hit : (k lo hi : ℕ) → lo < hi → hi < P .events → ((u v : ℕ) → u < v → matches u v k ≡ (eqb hi v && eqb lo u)) → hits k ≡ 1
   unfolding hits
   one-hit k lo hi l m is =
-      sum-ext (P .events) _ (λ v. on (eqb hi v) (sum v (λ u. on (eqb lo u) 1))) (λ v j. sum-ext v _ (λ u. on (eqb hi v) (on (eqb lo u) 1)) (λ u i. ap (λ (b : Bool). on b 1) (is u v i) ∙ nested (eqb hi v) (eqb lo u)) ∙ sym (on-sum (eqb hi v) v (λ u. on (eqb lo u) 1)))
+      sum-ext (P .events) _ (λ v. on (eqb hi v) (sum v (λ u. on (eqb lo u) 1))) (λ v j.
+      sum-ext v _ (λ u. on (eqb hi v) (on (eqb lo u) 1)) (λ u i. ap (λ (b : Bool). on b 1) (is u v i) ∙ nested (eqb hi v) (eqb lo u))
+      ∙ sym (on-sum (eqb hi v) v (λ u. on (eqb lo u) 1)))
       ∙ sum-one (P .events) hi (λ v. sum v (λ u. on (eqb lo u) 1)) m
       ∙ sum-one hi lo (λ u. 1) l
     where
@@ -66,7 +68,10 @@ module _ (P : Plan) where
         one-hit k (P .earlier k) (P .later k) a (ok .later-named k l) (λ u v i.
         same (matches u v k) (eqb (P .later k) v && eqb (P .earlier k) u)
         (λ h. ⊎-elim (λ e. yes-and (eqb (P .later k) v) (eqb (P .earlier k) u) (yes-eqb (e .1)) (yes-eqb (e .0))) (λ e. absurd (omega arith)) (matches-yes u v k h))
-        (λ h. let both = and-yes (eqb (P .later k) v) (eqb (P .earlier k) u) h in yes-or-left (eqb (P .earlier k) u && eqb (P .later k) v) (eqb (P .earlier k) v && eqb (P .later k) u) (yes-and (eqb (P .earlier k) u) (eqb (P .later k) v) (both .1) (both .0)))))
+        (λ h.
+        let both = and-yes (eqb (P .later k) v) (eqb (P .earlier k) u) h in
+        yes-or-left (eqb (P .earlier k) u && eqb (P .later k) v) (eqb (P .earlier k) v && eqb (P .later k) u)
+        (yes-and (eqb (P .earlier k) u) (eqb (P .later k) v) (both .1) (both .0)))))
         (λ t.
         let a = nltb→le (P .earlier k) (P .later k) t in
         let apart : ¬ (P .earlier k ≡ P .later k) = λ e. ok .acyclic (P .later k) (subst (λ (x : ℕ). Before P x (P .later k)) e (pair k l)) in
@@ -84,7 +89,10 @@ module _ (P : Plan) where
     new-pair k u v l here before =
         let w = any-yes k (matches u v) before in
         let i = w .0 in
-        let cycle : P .earlier i ≡ P .later k → P .later i ≡ P .earlier k → ⊥ = λ a b. ok .acyclic (P .earlier i) (chain (pair i (omega (arith, w .1))) (subst (λ (x : ℕ). Before P x (P .earlier i)) (sym b) (subst (λ (x : ℕ). Before P (P .earlier k) x) (sym a) (pair k l)))) in
+        let there : P .earlier i ≡ P .later k → Before P (P .earlier k) (P .earlier i) = λ a. subst (λ (x : ℕ). Before P (P .earlier k) x) (sym a) (pair k l) in
+        let cycle : P .earlier i ≡ P .later k → P .later i ≡ P .earlier k → ⊥ = λ a b.
+        ok .acyclic (P .earlier i) (chain (pair i (omega (arith, w .1))) (subst (λ (x : ℕ). Before P x (P .earlier i)) (sym b) (there a)))
+        in
         ⊎-elim
         (λ a. ⊎-elim (λ b. once i k (w .1) l (b .0 ∙ sym (a .0)) (b .1 ∙ sym (a .1))) (λ b. cycle (b .0 ∙ sym (a .1)) (b .1 ∙ sym (a .0))) (matches-yes u v i (w .2)))
         (λ a. ⊎-elim (λ b. cycle (b .0 ∙ sym (a .1)) (b .1 ∙ sym (a .0))) (λ b. once i k (w .1) l (b .0 ∙ sym (a .0)) (b .1 ∙ sym (a .1))) (matches-yes u v i (w .2)))
@@ -95,7 +103,9 @@ module _ (P : Plan) where
     fewer k l =
         ap (λ (n : ℕ). freeBy (suc k) + n) (sym (hit k l))
         ∙ sym (sum-add (P .events) (λ v. sum v (λ u. on (not (any (suc k) (matches u v))) 1)) (λ v. sum v (λ u. on (matches u v k) 1)))
-        ∙ sum-ext (P .events) _ _ (λ v j. sym (sum-add v (λ u. on (not (any (suc k) (matches u v))) 1) (λ u. on (matches u v k) 1)) ∙ sum-ext v _ _ (λ u i. apart (any k (matches u v)) (matches u v k) (λ a b. new-pair k u v l b a)))
+        ∙ sum-ext (P .events) _ _ (λ v j.
+        sym (sum-add v (λ u. on (not (any (suc k) (matches u v))) 1) (λ u. on (matches u v k) 1))
+        ∙ sum-ext v _ _ (λ u i. apart (any k (matches u v)) (matches u v k) (λ a b. new-pair k u v l b a)))
       where
         apart : (x m : Bool) → (T x → T m → ⊥) → on (not (x || m)) 1 + on m 1 ≡ on (not x) 1
         apart true true n = absurd (n tt tt)

@@ -1,13 +1,13 @@
 -- What each comparison says of one item: it shows the fault, or the items so far and this one don't.
 use Prim.Native.Nat.{ℕ, _+_, _<_, _≤_}
 use native.Mathlib.Omega.{arith}
-use mathlib.Core.Bool.{Bool, true, false, or-true}
+use mathlib.Core.Bool.{true, false, or-true}
 use mathlib.Core.List.{List}
 use mathlib.Core.Path.{_≡_, sym, _∙_}
 use borrow.Author.Tests.{lt-ltb, le-ltb, le-leb, lt-leb, eq-eqb, ne-eqb}
 use Rattle.finite.specs.Bounded.{any}
 use Rattle.finite.specs.Search.{search-more, search-found}
-use Rattle.sheet.specs.Table.{placesOf, transitionsOf, eventsOf, pairsOf}
+use Rattle.sheet.specs.Table.{transitionsOf, eventsOf}
 use Rattle.sheet.specs.Items.{openingAt, takesAt, givesAt, labelAt, earlierAt, laterAt}
 use Rattle.sheet.specs.Faults.{overOpeningAt, overOpening, overWeightAt, overWeightIn, overWeight, noTransitionAt, noTransition, noEventAt, noEvent, selfPairAt, selfPair}
 use Rattle.layout.specs.Layout.{LayoutOf}

@@ -1,50 +1,56 @@
 -- Texts one after another, and what a loop knows that puts them.
-use Prim.Native.Nat.{ℕ, zero, suc, _+_, _≤_, _<_}
-use native.Mathlib.Nat.{le-step, lt-suc-self, suc-ne-zero}
+use Prim.Native.Nat.{ℕ, zero, suc, _+_, _*_, _≤_, _<_}
+use native.Mathlib.Nat.{le-step, lt-suc-self, suc-ne-zero, mul-suc}
 use native.Mathlib.Numerals.{add-one}
 use native.Mathlib.Omega.{arith}
-use mathlib.Core.Bool.{Bool, true, false, cond, _||_}
+use mathlib.Core.Bool.{Bool, true, false, cond, _&&_, _||_}
 use mathlib.Core.List.{List, [], _∷_, _++_}
-use mathlib.Core.Path.{_≡_, refl, sym, ap, ap₂, subst}
+use mathlib.Core.Path.{_≡_, refl, sym, ap, ap₂, _∙_}
+use borrow.Author.Tests.{lt-ltb}
 use lib.ListN.{length, length-append}
 use Rattle.finite.specs.Bounded.{any}
 use Rattle.finite.specs.Subset.{Set}
 use Rattle.finite.specs.Search.{search-none}
+use Rattle.marks.specs.Marks.{marked}
+use Rattle.search.specs.Row.{members}
 use Rattle.text.specs.Words.{word, decimal}
 use Rattle.text.specs.Put.{Put, put-none, put-then}
 use Rattle.lines.specs.Listing.{field, each, eventIn, doneEvents}
 
-pub each-ext : (n : ℕ) (f g : ℕ → List ℕ) → ((i : ℕ) → i < n → f i ≡ g i) → each n f ≡ each n g
-unfolding each
-each-ext zero f g h = refl
-each-ext (suc n) f g h = ap₂ _++_ (each-ext n f g (λ i l. h i (le-step l))) (h n (lt-suc-self n))
+infixl 20 _then_
+-- one text after another
+pub _then_ : {old mid new : List ℕ} {at : ℕ} {text more : List ℕ} {between end : ℕ} → Put old mid at text between → Put mid new between more end
+    → Put old new at (text ++ more) end
+_then_ first second = put-then first second
 
-any-ext : (n : ℕ) (D E : Set) → ((v : ℕ) → v < n → D v ≡ E v) → any n D ≡ any n E
-unfolding any
-any-ext zero D E h = refl
-any-ext (suc n) D E h = ap₂ _||_ (any-ext n D E (λ i l. h i (le-step l))) (h n (lt-suc-self n))
+-- whether an event is of a set, by its mark
+pub told : (done : List ℕ) (v : ℕ) (r b : Bool) → r ≡ marked done 0 v → r ≡ b → v < 256 → members done v ≡ b
+unfolding members
+told done v r b is e few = ap (λ (x : Bool). x && marked done 0 v) (lt-ltb v 256 few) ∙ sym is ∙ e
 
-pub done-ext : (n : ℕ) (D E : Set) → ((v : ℕ) → v < n → D v ≡ E v) → doneEvents n D ≡ doneEvents n E
-unfolding doneEvents
-done-ext n D E h =
-    ap₂
-    (λ (b : Bool) (t : List ℕ). cond b t (word " none"))
-    (any-ext n D E h)
-    (each-ext n (eventIn D) (eventIn E) (λ v l. ap (λ (b : Bool). cond b (field " " v) []) (h v l)))
+-- What a loop knows that has put the first i of n texts, each of at most `most` bytes.
+pub record Putting (old row : List ℕ) (at : ℕ) (f : ℕ → List ℕ) (most n i end : ℕ) : Type 0 where
+  pub passed : i ≤ n
+  pub put : Put old row at (each i f) end
+  pub room : end ≤ at + most * i
 
--- A loop that puts one text after another.
-module _ (old : List ℕ) (at : ℕ) (f : ℕ → List ℕ) where
-  pub each-start : at ≤ length old → Put old old at (each 0 f) at
+module _ {old : List ℕ} {at : ℕ} {f : ℕ → List ℕ} {most n : ℕ} where
+  pub each-start : at ≤ length old → Putting old old at f most n 0 at
   unfolding each
-  each-start l = put-none old at l
+  each-start l = record { passed = omega arith; put = put-none old at l; room = omega arith }
 
-  pub each-more : (mid new : List ℕ) (i between end : ℕ) → Put old mid at (each i f) between → Put mid new between (f i) end → Put old new at (each (i + 1) f) end
+  pub each-more : {mid new : List ℕ} {i between end : ℕ} → Putting old mid at f most n i between → i < n → Put mid new between (f i) end → end ≤ between + most
+      → Putting old new at f most n (i + 1) end
   unfolding each
-  each-more mid new i between end so-far here =
-      subst (λ (n : ℕ). Put old new at (each n f) end) (sym (add-one i)) (put-then so-far here)
+  each-more {i = i} so-far more here fits =
+      record {
+        passed = omega arith;
+        put = rw (add-one i) (so-far .put then here);
+        room = rw (add-one i, mul-suc) (omega (arith, so-far .room));
+      }
 
-  pub each-done : (new : List ℕ) (i n end : ℕ) → i ≡ n → Put old new at (each i f) end → Put old new at (each n f) end
-  each-done new i n end e h = subst (λ (k : ℕ). Put old new at (each k f) end) e h
+  pub each-done : {new : List ℕ} {i end : ℕ} → Putting old new at f most n i end → n ≤ i → Put old new at (each n f) end
+  each-done {i = i} h l = let e : i ≡ n = omega (arith, h .passed) in rw e at (h .put)
 
 -- Nothing is put exactly if the set has no event.
 field-some : (v : ℕ) → 0 < length (field " " v)
@@ -80,13 +86,12 @@ empty : (xs : List ℕ) → length xs ≡ 0 → xs ≡ []
 empty [] e = refl
 empty (x ∷ xs) e = absurd (suc-ne-zero (length xs) e)
 
-module _ (old mid : List ℕ) (at n : ℕ) (D : Set) (between : ℕ) (put : Put old mid at (each n (eventIn D)) between) where
-  pub done-none : (new : List ℕ) (end : ℕ) → between ≡ at → Put mid new at (word " none") end → Put old new at (doneEvents n D) end
+module _ {old mid : List ℕ} {at between : ℕ} (n : ℕ) (D : Set) (put : Put old mid at (each n (eventIn D)) between) where
+  pub done-none : {new : List ℕ} {end : ℕ} → between ≡ at → Put mid new at (word " none") end → Put old new at (doneEvents n D) end
   unfolding doneEvents
-  done-none new end e none =
+  done-none e none =
       let e₀ : length (each n (eventIn D)) ≡ 0 = omega (arith, put .ends) in
-      let both = put-then (rw (empty (each n (eventIn D)) e₀) at put) (rw (sym e) at none) in
-      rw (each-none n D e₀) both
+      rw (each-none n D e₀) (rw (empty (each n (eventIn D)) e₀) at put then rw (sym e) at none)
 
   pub done-some : ¬ (between ≡ at) → Put old mid at (doneEvents n D) between
   unfolding doneEvents

@@ -1,6 +1,6 @@
+pub mod Room
 pub mod Listing
-pub mod Marked
 pub mod Each
-pub mod Counted
+pub mod MissingRow
 pub mod Examples
 pub mod Enough

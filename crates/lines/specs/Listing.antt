@@ -53,6 +53,11 @@ firstLine p events D = field "first " p ++ word " done" ++ doneEvents events D +
 unfoldable pub runsLine : List ℕ
 runsLine = word "runs\n"
 
+-- that line by the verdict and the done set of its place
+unfoldable pub lastLine : Verdict → ℕ → Set → List ℕ
+lastLine Runs events D = runsLine
+lastLine (Short p m) events D = firstLine (p .0) events D
+
 unfoldable pub verdictLine : Net → Plan → Verdict → List ℕ
 verdictLine N P Runs = runsLine
 verdictLine N P (Short p m) = firstLine (p .0) (P .events) (smallest N P (p .0))
@@ -61,13 +66,16 @@ verdictLine N P (Short p m) = firstLine (p .0) (P .events) (smallest N P (p .0))
 unfoldable pub lineOf : Net → Plan → ℕ → List ℕ
 lineOf N P p = placeLine p (N .opening p) (endCount N P p) (missing N P p)
 
--- the lines of a net and a plan
-unfoldable pub linesOf : Net → Plan → List ℕ
-linesOf N P =
+-- the lines that tell counts, of the plan, of each place and of all places
+unfoldable pub countLines : Net → Plan → List ℕ
+countLines N P =
     planLine (P .events) (P .pairs) (freeCount P)
     ++ each (N .places) (lineOf N P)
     ++ totalsLine (shortPlaces (missing N P) (N .places)) (totalMissing (missing N P) (N .places))
-    ++ verdictLine N P (verdictOf (missing N P) (N .places))
+
+-- the lines of a net and a plan
+unfoldable pub linesOf : Net → Plan → List ℕ
+linesOf N P = countLines N P ++ verdictLine N P (verdictOf (missing N P) (N .places))
 
 -- A faulty sheet prints one line only.
 unfoldable pub refusedLine : ℕ → List ℕ

@@ -1,89 +1,113 @@
--- What the plan judgement's answer in a row of 64 numbers says of the listing.
-use Prim.Native.Nat.{ℕ, zero, suc, _+_, _*_, _≤_}
+-- What the missing counts of a sheet's places say of its listing.
+use Prim.Native.Nat.{ℕ, zero, suc, _+_, _*_, _≤_, _<_}
 use native.Mathlib.Omega.{arith}
 use mathlib.Core.List.{List, _++_}
-use mathlib.Core.Path.{_≡_, refl, sym, ap, _∙_}
-use lib.ListN.{length}
+use mathlib.Core.Path.{_≡_, refl, sym, ap, subst, _∙_}
+use Rattle.finite.specs.Filled.{Filled}
+use Rattle.finite.specs.Sum.{sum-most}
+use Rattle.plan.specs.Net.{takenBy}
 use Rattle.plan.specs.Order.{freeCount}
-use Rattle.plan.specs.Prefix.{missing}
+use Rattle.theory.specs.Missing.{missing-most}
 use Rattle.sheet.specs.Table.{placesOf, eventsOf, pairsOf}
-use Rattle.sheet.specs.Items.{netOf, planOf}
+use Rattle.sheet.specs.Items.{netOf, planOf, labelAt}
 use Rattle.sheet.specs.Faults.{faultOf}
-use Rattle.sheet.specs.Faultless.{Faultless, faultless, sound}
-use Rattle.calls.specs.Call.{long-row, lower-first}
-use Rattle.calls.specs.Overwritten.{overwritten, over-first, over-size, at-none}
-use Rattle.summary.specs.Summary.{totalMissing, shortPlaces, verdictOf}
-use Rattle.summary.specs.declared.Verdict.{Verdict}
+use Rattle.sheet.specs.Faultless.{Faultless, sound}
+use Rattle.layout.specs.declared.Layout.{Layout}
+use Rattle.layout.specs.Layout.{LayoutOf}
 use Rattle.place.specs.Place.{missingAt}
-use Rattle.plan_judgement.specs.declared.Answer.{Answer}
-use Rattle.plan_judgement.specs.declared.Answer.the-variants.{Fault, Judged}
+use Rattle.search.specs.Row.{members}
+use Rattle.summary.specs.declared.Verdict.{Verdict}
+use Rattle.summary.specs.declared.Verdict.the-variants.{Runs, Short}
+use Rattle.summary.specs.Summary.{totalMissing, shortPlaces, verdictOf, verdictNumber, countAt, MissingCounts}
+use Rattle.summary.specs.Laws.{Says, verdict-says, verdict-fits, total-agrees, short-agrees, verdict-agrees}
+use Rattle.plan_judgement.specs.declared.First.{First}
 use Rattle.plan_judgement.specs.declared.Totals.{Totals}
-use Rattle.plan_judgement.specs.Judgement.{faultIn, planFault, totalsOf, answer, answerOf, rowOf}
-use Rattle.plan_judgement.specs.Laws.{fault-told}
+use Rattle.plan_judgement.specs.First.{FirstTo}
+use Rattle.plan_judgement.specs.Judgement.{totalsIn}
 use Rattle.counts.specs.Free.{free-pairs}
-use Rattle.lines.specs.Listing.{planLine, totalsLine, each, verdictLine, lineOf, linesOf, refusedLine, textOf, listingOf}
-use Rattle.lines.specs.Counted.{Counted}
-
--- the free count of a sheet without fault, by its counts
-pub free-of : (s : List ℕ) → Faultless s → 2 * (freeCount (planOf s) + pairsOf s) + eventsOf s ≡ eventsOf s * eventsOf s
-free-of s known = free-pairs (planOf s) (sound s known) (known .once)
-
-pub free-told : (s : List ℕ) → Faultless s → (events pairs r : ℕ) → events ≡ eventsOf s → pairs ≡ pairsOf s → 2 * (r + pairs) + events ≡ events * events → r ≡ freeCount (planOf s)
-free-told s known events pairs r e i h = omega (arith, free-of s known, ap (λ (n : ℕ). n * n) e)
-
--- the lines from what is counted
-pub lines-are : (s : List ℕ) (events pairs r short total : ℕ) (v : Verdict) → events ≡ eventsOf s → pairs ≡ pairsOf s → r ≡ freeCount (planOf s) → short ≡ shortPlaces (missing (netOf s) (planOf s)) (placesOf s) → total ≡ totalMissing (missing (netOf s) (planOf s)) (placesOf s) → v ≡ verdictOf (missing (netOf s) (planOf s)) (placesOf s) → linesOf (netOf s) (planOf s) ≡ planLine events pairs r ++ each (placesOf s) (lineOf (netOf s) (planOf s)) ++ totalsLine short total ++ verdictLine (netOf s) (planOf s) v
-unfolding linesOf
-lines-are s events pairs r short total v e i f h t w = rw (e, i, f, h, t, w)
+use Rattle.lines.specs.Listing.{planLine, totalsLine, each, lastLine, verdictLine, lineOf, countLines, linesOf, refusedLine, textOf, listingOf}
+use Rattle.lines.specs.MissingRow.{MissingRow}
 
 -- the listing by the fault
-pub listing-refused : (s : List ℕ) (k : ℕ) → faultOf s ≡ k → ¬ (k ≡ 0) → listingOf s ≡ refusedLine k
-unfolding listingOf textOf
-listing-refused s zero e some = absurd (some refl)
-listing-refused s (suc k) e some = ap (λ (fault : ℕ). textOf fault (netOf s) (planOf s)) e
+module _ (s : List ℕ) where
+  pub listing-refused : (k : ℕ) → k ≡ faultOf s → ¬ (k ≡ 0) → listingOf s ≡ refusedLine k
+  unfolding listingOf textOf
+  listing-refused zero e some = absurd (some refl)
+  listing-refused (suc k) e some = ap (λ (fault : ℕ). textOf fault (netOf s) (planOf s)) (sym e)
 
-pub listing-lines : (s : List ℕ) → faultOf s ≡ 0 → listingOf s ≡ linesOf (netOf s) (planOf s)
-unfolding listingOf textOf
-listing-lines s e = ap (λ (fault : ℕ). textOf fault (netOf s) (planOf s)) e
+  pub listing-lines : (k : ℕ) → k ≡ faultOf s → k ≡ 0 → listingOf s ≡ linesOf (netOf s) (planOf s)
+  unfolding listingOf textOf
+  listing-lines k e none = ap (λ (fault : ℕ). textOf fault (netOf s) (planOf s)) (sym e ∙ none)
 
--- the answer's case and its totals
-never : (x : ℕ) (t : Totals) (k : ℕ) → Fault k ≡ answer x t → ¬ (k ≡ 0)
-unfolding answer
-never zero t k e z = let bad : _≡_ {A = ℕ} 0 1 = cc in omega arith
-never (suc x) t k e z = let same : k ≡ suc x = cc in omega arith
+-- what the counts in a row come to
+pub record Told (s : List ℕ) (t : Totals) : Type 0 where
+  pub total : t .total ≡ totalMissing (missingAt s) (placesOf s)
+  pub short : t .short ≡ shortPlaces (missingAt s) (placesOf s)
+  pub verdict : t .verdict ≡ verdictOf (missingAt s) (placesOf s)
 
-judged-is : (x : ℕ) (t u : Totals) → Judged t ≡ answer x u → t ≡ u
-unfolding answer
-judged-is zero t u e = cc
-judged-is (suc x) t u e = let bad : _≡_ {A = ℕ} 0 1 = cc in absurd (omega arith)
+-- a short verdict's place is one of the net
+pub few-places : (s : List ℕ) → Faultless s → (t : Totals) → Told s t → verdictNumber (t .verdict) < 1064
+few-places s known t all =
+    rw (all .verdict) (omega (arith, verdict-fits (missingAt s) (placesOf s), known .laid .limited .places))
 
-module _ (s row : List ℕ) (room : 64 ≤ length row) where
-  fault-is : (k : ℕ) → faultOf s ≡ k → planFault s row ≡ k
-  unfolding planFault
-  fault-is zero e = long-row (faultOf s) row (placesOf s) e (omega (arith, faultless s e .laid .limited .places))
-  fault-is (suc k) e = lower-first (faultOf s) row (placesOf s) (λ z. omega arith) ∙ e
+-- What is missing at a place is no more than all events take.
+most-missing : (s : List ℕ) → Faultless s → (p : ℕ) → p < placesOf s → missingAt s p ≤ 256000
+most-missing s known p l =
+    omega (
+      arith,
+      missing-most (netOf s) (planOf s) p (sound s known),
+      sum-most (eventsOf s) 1000 (takenBy (netOf s) (planOf s) p) (λ v m. known .takes (labelAt s v) p (known .labels v m) l),
+      known .laid .limited .events,
+    )
 
-  told-fault : (a : Answer) → a ≡ answerOf s row → faultIn a ≡ faultOf s
-  told-fault a e = ap faultIn e ∙ fault-told s row ∙ fault-is (faultOf s) refl
+-- the last line, from the done set of the first short place
+last-by : (s : List ℕ) (f : First) (v : Verdict) → FirstTo s (placesOf s) f → Says (missingAt s) (placesOf s) v
+    → verdictLine (netOf s) (planOf s) v ≡ lastLine v (eventsOf s) (members (f .done))
+unfolding verdictLine lastLine
+last-by s f Runs first says = refl
+last-by s f (Short p m) first says =
+    rw (first .set (p .0) (says .0) (record { short = omega (arith, says .1, says .2); before = says .3 }))
 
-  pub refused : (k : ℕ) → Fault k ≡ answerOf s row → (faultOf s ≡ k) × (¬ (k ≡ 0))
-  unfolding answerOf
-  refused k e = (sym (told-fault (Fault k) e), never (planFault s row) (totalsOf s) k e)
+module _ (s : List ℕ) (known : Faultless s) (l : Layout) (is : LayoutOf s l) where
+  free-of : 2 * (freeCount (planOf s) + pairsOf s) + eventsOf s ≡ eventsOf s * eventsOf s
+  free-of = free-pairs (planOf s) (sound s known) (known .once)
 
-  module _ (t : Totals) (e : Judged t ≡ answerOf s row) where
-    pub no-fault : faultOf s ≡ 0
-    no-fault = sym (told-fault (Judged t) e)
+  -- no two events have more than one pair
+  pub pairs-fit : 2 * l .pairs + l .events ≤ l .events * l .events
+  pairs-fit = omega (arith, free-of, is .pairs, is .events, ap (λ (n : ℕ). n * n) (is .events))
 
-    pub totals-are : t ≡ totalsOf s
-    unfolding answerOf
-    totals-are = judged-is (planFault s row) t (totalsOf s) e
+  pub counts-are : (r short total : ℕ) → 2 * (r + l .pairs) + l .events ≡ l .events * l .events → short ≡ shortPlaces (missingAt s) (placesOf s)
+      → total ≡ totalMissing (missingAt s) (placesOf s)
+      → countLines (netOf s) (planOf s) ≡ planLine (l .events) (l .pairs) r ++ each (placesOf s) (lineOf (netOf s) (planOf s)) ++ totalsLine short total
+  unfolding countLines
+  counts-are r short total f h t =
+      let free : r ≡ freeCount (planOf s) = omega (arith, free-of, is .pairs, is .events, ap (λ (n : ℕ). n * n) (is .events)) in
+      rw (is .events, is .pairs, free, h, t)
 
-    pub counted : Counted s (rowOf s row)
-    unfolding rowOf
-    counted =
-        let here : rowOf s row ≡ overwritten (missingAt s) (placesOf s) row = sym (at-none (planFault s row) (overwritten (missingAt s) (placesOf s) row) row (fault-is 0 no-fault)) in
-        let few = faultless s no-fault .laid .limited .places in
-        rw here (record {
-          long = omega (arith, over-size (missingAt s) (placesOf s) row);
-          counts = λ p l. over-first (missingAt s) (placesOf s) row p l (omega arith);
-        })
+  module _ (old new : List ℕ) (counted : Filled (missingAt s) (l .places) old new) where
+    pub missing-row : MissingRow s new
+    missing-row = record { counts = λ p m. counted .numbers p (omega (arith, is .places)) }
+
+    -- they are small enough to be added up
+    pub small : MissingCounts new (l .places)
+    small =
+        record {
+          few = omega (arith, is .places, known .laid .limited .places);
+          most = λ p m. omega (arith, counted .numbers p m, most-missing s known p (omega (arith, is .places)));
+        }
+
+    pub told : (t : Totals) → t ≡ totalsIn (countAt new) (l .places) → Told s t
+    told t e =
+        record {
+          total = ap (λ (t : Totals). t .total) e ∙ total-agrees (countAt new) (missingAt s) (l .places) (counted .numbers) ∙ ap (totalMissing (missingAt s)) (is .places);
+          short = ap (λ (t : Totals). t .short) e ∙ short-agrees (countAt new) (missingAt s) (l .places) (counted .numbers) ∙ ap (shortPlaces (missingAt s)) (is .places);
+          verdict = ap (λ (t : Totals). t .verdict) e ∙ verdict-agrees (countAt new) (missingAt s) (l .places) (counted .numbers) ∙ ap (verdictOf (missingAt s)) (is .places);
+        }
+
+  -- the lines, from those that tell counts and the last one
+  pub lines-are : (f : First) (v : Verdict) → FirstTo s (l .places) f → v ≡ verdictOf (missingAt s) (placesOf s)
+      → linesOf (netOf s) (planOf s) ≡ countLines (netOf s) (planOf s) ++ lastLine v (l .events) (members (f .done))
+  unfolding linesOf
+  lines-are f v first e =
+      rw (← e, is .events)
+      (ap (λ (line : List ℕ). countLines (netOf s) (planOf s) ++ line) (last-by s f v (rw (is .places) at first) (rw (← e) at (verdict-says (missingAt s) (placesOf s)))))

@@ -1,3 +1,2 @@
-pub mod Marking
 pub mod Judging
 pub mod Copying

@@ -1,28 +1,38 @@
-// The listing of a sheet, written into a lent row of bytes.
-ghost use Prim.Native.Nat.{_+_, _<_, _≤_};
+// The listing of a sheet, written into a lent row of bytes. The sheet is examined once: the rows of its order and the done set of its first
+// short place are handed on.
+ghost use Prim.Native.Nat.{_+_, _≤_, _<_};
 ghost use mathlib.Core.Path.{_≡_};
 ghost use lib.ListN.{length};
-ghost use Rattle.plan.specs.Prefix.{missing, smallest};
-ghost use Rattle.sheet.specs.Table.{placesOf, eventsOf};
+ghost use Rattle.closure.specs.PlanRows.{Predecessors};
+ghost use Rattle.ids.specs.Lent.{was, is};
+ghost use Rattle.ids.specs.Limits.{mostPlaces, mostEvents};
+ghost use Rattle.layout.specs.Layout.{LayoutOf};
+ghost use Rattle.lines.specs.Listing.{countLines, lastLine, linesOf, listingOf};
+ghost use Rattle.lines.specs.MissingRow.{MissingRow};
+ghost use Rattle.lines.specs.Room.{countsRoom, firstRoom, listingRoom};
+ghost use Rattle.place.specs.Place.{missingAt};
+ghost use Rattle.search.specs.Row.{members};
+ghost use Rattle.sheet.specs.Faultless.{Faultless};
 ghost use Rattle.sheet.specs.Items.{netOf, planOf};
-ghost use Rattle.sheet.specs.Faults.{faultOf};
-ghost use Rattle.summary.specs.Summary.{totalMissing, shortPlaces, verdictOf};
+ghost use Rattle.sheet.specs.Table.{placesOf};
+ghost use Rattle.summary.specs.Summary.{totalMissing, shortPlaces, verdictNumber};
 ghost use Rattle.text.specs.Put.{Put};
-ghost use Rattle.lines.specs.Listing.{firstLine, verdictLine, linesOf, listingOf};
-ghost use Rattle.lines.specs.Counted.{Counted};
 ghost use Rattle.listed.specs.Listed.{listedOf, rowAfter};
 use counts::free_count;
-use ids::Place;
-use layout::entry_count;
+use fault::examine;
+use ids::PLACES;
+use ids::ROWS;
+use ids::WORDS;
+use layout::Layout;
+use lines::LISTING_ROOM;
 use lines::put_first;
 use lines::put_places;
 use lines::put_plan;
 use lines::put_refused;
 use lines::put_runs;
 use lines::put_totals;
-use place_judgement::judge_place;
-use plan_judgement::Answer;
-use plan_judgement::judge_plan;
+use plan_judgement::count_missing;
+use plan_judgement::sum_up;
 use summary::Verdict;
 use text::put_word;
 
@@ -31,72 +41,79 @@ pub enum Listed {
     Length(usize),
 }
 
-// The line of the first short place, whose done events the place judgement marks.
-fn put_short(s: &[u8], events: usize, p: Place, row: &mut [u8], at: usize) -> usize
-    requires { ⌜ faultOf (now s) ≡ 0 ⌝ }
-    requires { ⌜ (events ≡ eventsOf (now s)) × (p .0 < placesOf (now s)) × (0 < missing (netOf (now s)) (planOf (now s)) (p .0)) ⌝ }
-    requires { ⌜ at + 2838 ≤ length (now row) ⌝ }
-    ensures { λ r. ⌜ Put (now (row .entry)) (now (row .exit)) at (firstLine (p .0) (eventsOf (now (s .entry))) (smallest (netOf (now (s .entry))) (planOf (now (s .entry))) (p .0))) r ⌝ }
+// The lines that tell counts, with the missing counts in a row and what they come to.
+fn put_counts(
+    s: &[u8],
+    l: Layout,
+    missing: &[u32; PLACES],
+    short: u32,
+    total: u32,
+    row: &mut [u8],
+) -> usize
+    requires { ⌜ Faultless (now s) ⌝ }
+    requires { ⌜ LayoutOf (now s) l ⌝ }
+    requires { ⌜ MissingRow (now s) (now missing) ⌝ }
+    requires { ⌜ short ≡ shortPlaces (missingAt (now s)) (placesOf (now s)) ⌝ }
+    requires { ⌜ total ≡ totalMissing (missingAt (now s)) (placesOf (now s)) ⌝ }
+    requires { ⌜ listingRoom ≤ length (now row) ⌝ }
+    ensures { λ r. ⌜ Put (was row) (is row) 0 (countLines (netOf (was s)) (planOf (was s))) r × (r ≤ countsRoom) ⌝ }
 {
-    let mut flow = [0u32; 1280];
-    let mut marks = [0u8; 256];
-    judge_place(s, p, &mut flow, &mut marks);
-    put_first(row, at, p.0 as u32, &marks, events)
+    let free = free_count(l.events, l.pairs);
+    let a = put_plan(row, 0, l.events as u32, l.pairs as u32, free);
+    let b = put_places(s, l.places, missing, row, a);
+    put_totals(row, b, short, total)
 }
 
-fn put_verdict(s: &[u8], events: usize, v: Verdict, row: &mut [u8], at: usize) -> usize
-    requires { ⌜ faultOf (now s) ≡ 0 ⌝ }
-    requires { ⌜ (events ≡ eventsOf (now s)) × (v ≡ verdictOf (missing (netOf (now s)) (planOf (now s))) (placesOf (now s))) ⌝ }
-    requires { ⌜ at + 2838 ≤ length (now row) ⌝ }
-    ensures { λ r. ⌜ Put (now (row .entry)) (now (row .exit)) at (verdictLine (netOf (now (s .entry))) (planOf (now (s .entry))) v) r ⌝ }
+// The last line, by the verdict and the done set of the first short place.
+fn put_verdict(v: Verdict, done: &[u32; WORDS], n: usize, row: &mut [u8], at: usize) -> usize
+    requires { ⌜ verdictNumber v < 1000 + mostPlaces ⌝ }
+    requires { ⌜ (n ≤ mostEvents) × (at + firstRoom ≤ length (now row)) ⌝ }
+    ensures { λ r. ⌜ Put (was row) (is row) at (lastLine v n (members (was done))) r ⌝ }
 {
     match v {
         Verdict::Runs => put_runs(row, at),
-        Verdict::Short(p, _m) => put_short(s, events, p, row, at),
+        Verdict::Short(p, _m) => put_first(row, at, p, done, n),
     }
 }
 
-// The listing of a sheet without fault, from what its plan judgement says.
-fn put_lines(s: &[u8], counts: &[u32], total: u32, short: u32, v: Verdict, row: &mut [u8]) -> usize
-    requires { ⌜ faultOf (now s) ≡ 0 ⌝ }
-    requires { ⌜ Counted (now s) (now counts) ⌝ }
-    requires { ⌜ (total ≡ totalMissing (missing (netOf (now s)) (planOf (now s))) (placesOf (now s))) × (short ≡ shortPlaces (missing (netOf (now s)) (planOf (now s))) (placesOf (now s))) ⌝ }
-    requires { ⌜ v ≡ verdictOf (missing (netOf (now s)) (planOf (now s))) (placesOf (now s)) ⌝ }
-    requires { ⌜ 7280 ≤ length (now row) ⌝ }
-    ensures { λ r. ⌜ Put (now (row .entry)) (now (row .exit)) 0 (linesOf (netOf (now (s .entry))) (planOf (now (s .entry)))) r ⌝ }
+// The listing of a sheet without fault, whose order is in a row.
+fn put_lines(s: &[u8], l: Layout, pred: &[u32; ROWS], row: &mut [u8]) -> usize
+    requires { ⌜ Faultless (now s) ⌝ }
+    requires { ⌜ LayoutOf (now s) l ⌝ }
+    requires { ⌜ Predecessors (planOf (now s)) (now pred) ⌝ }
+    requires { ⌜ listingRoom ≤ length (now row) ⌝ }
+    ensures { λ r. ⌜ Put (was row) (is row) 0 (linesOf (netOf (was s)) (planOf (was s))) r ⌝ }
 {
-    let places = entry_count(s, 0);
-    let events = entry_count(s, 2);
-    let pairs = entry_count(s, 3);
-    let free = free_count(events, pairs);
-    let a = put_plan(row, 0, events as u32, pairs as u32, free);
-    let b = put_places(s, places, counts, row, a);
-    let c = put_totals(row, b, short, total);
-    put_verdict(s, events, v, row, c)
+    let mut missing = [0u32; PLACES];
+    let first = count_missing(s, l, pred, &mut missing);
+    let totals = sum_up(&missing, l.places);
+    let end = put_counts(s, l, &missing, totals.short, totals.total, row);
+    let v = totals.verdict;
+    let done = first.done;
+    put_verdict(v, &done, l.events, row, end)
 }
 
 // The listing of any bytes, in a row that has room for the longest.
 fn put_listing(s: &[u8], row: &mut [u8]) -> usize
-    requires { ⌜ 7280 ≤ length (now row) ⌝ }
-    ensures { λ r. ⌜ Put (now (row .entry)) (now (row .exit)) 0 (listingOf (now (s .entry))) r ⌝ }
+    requires { ⌜ listingRoom ≤ length (now row) ⌝ }
+    ensures { λ r. ⌜ Put (was row) (is row) 0 (listingOf (was s)) r ⌝ }
 {
-    let mut counts = [0u32; 64];
-    let judged = judge_plan(s, &mut counts);
-    match judged {
-        Answer::Fault(k) => put_refused(row, 0, k),
-        Answer::Judged(totals) => {
-            let v = totals.verdict;
-            put_lines(s, &counts, totals.total, totals.short, v, row)
-        }
+    let mut succ = [0u32; ROWS];
+    let mut pred = [0u32; ROWS];
+    let e = examine(s, &mut succ, &mut pred);
+    let k = e.fault;
+    if k != 0 {
+        return put_refused(row, 0, k);
     }
+    put_lines(s, e.layout, &pred, row)
 }
 
 // Writes the listing of any bytes into a lent row and tells its length. A row that is too short is left as it is.
 pub fn write_listing(s: &[u8], row: &mut [u8]) -> Listed
-    ensures { λ r. ⌜ r ≡ listedOf (now (s .entry)) (now (row .entry)) ⌝ }
-    ensures { λ _. ⌜ now (row .exit) ≡ rowAfter (now (s .entry)) (now (row .entry)) ⌝ }
+    ensures { λ r. ⌜ r ≡ listedOf (was s) (was row) ⌝ }
+    ensures { λ _. ⌜ is row ≡ rowAfter (was s) (was row) ⌝ }
 {
-    let mut text = [0u8; 8192];
+    let mut text = [0u8; LISTING_ROOM];
     let n = put_listing(s, &mut text);
     if row.len() < n {
         return Listed::Fault(13);

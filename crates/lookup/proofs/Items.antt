@@ -7,10 +7,10 @@ use mathlib.Core.Path.{_≡_, ap}
 use lib.ListN.{length}
 use Rattle.ids.specs.Limits.{mostPlaces, mostTransitions}
 use Rattle.numbers.specs.Number.{number}
-use Rattle.sheet.specs.Table.{item, itemLength, placesOf}
+use Rattle.sheet.specs.Table.{item, itemLength}
 use Rattle.sheet.specs.Items.{openingAt, takesAt, givesAt, labelAt, earlierAt, laterAt}
 use Rattle.sheet.specs.Laid.{transition-within}
-use Rattle.layout.specs.Layout.{placesAt, transitionsAt, eventsAt, pairsAt, LayoutOf, LaidBy}
+use Rattle.layout.specs.Layout.{placesAt, transitionsAt, eventsAt, pairsAt, LaidBy}
 use Rattle.layout.specs.declared.Layout.{Layout}
 
 pub weights-fit : (places t : ℕ) → places ≤ mostPlaces → t < mostTransitions → 4 * places * t ≤ 4 * mostPlaces * mostTransitions

@@ -27,9 +27,9 @@ use denote.Triple.Entry.{alive}
 use denote.Triple.Spec.{Meets, tripleOf}
 use denote.Triple.Statement.{Contract, Triple}
 use Rattle.ids.specs.declared.Place.{Place}
-use Rattle.lookup.proofs.Place as P
-use Rattle.lookup.proofs.Place.Laws as P′
-use Rattle.sheet.specs.Table.{placesOf}
+use Rattle.ids.proofs.Place as P
+use Rattle.ids.proofs.Place.Laws as P′
+use Rattle.sheet.specs.Table.{tableLength, placesOf}
 use Rattle.sheet.specs.Items.{openingAt}
 use Rattle.sheet.specs.Laid.{Laid}
 use Rattle.sheet.specs.Faultless.{Faultless}
@@ -85,7 +85,7 @@ module _ (Needs : List ℕ → Type 0) (found : List ℕ → ℕ → ℕ) {M : T
   abbrev pub Lookup : Contract 𝓤
   Lookup = tripleOf 𝓤 H A lookup.signature (closing 𝓤 H A lookup.ended (LookupClauses Needs found 𝓤))
 
-  module _ (table : (s : List ℕ) → Needs s → 32 ≤ length s) (𝓣 : Tables 𝓤 H) (made : Triple 𝓤 (𝓣 .C #read) Read) (callee : Name) (met : Triple 𝓤 (𝓣 .C callee) Lookup) where
+  module _ (table : (s : List ℕ) → Needs s → tableLength ≤ length s) (𝓣 : Tables 𝓤 H) (made : Triple 𝓤 (𝓣 .C #read) Read) (callee : Name) (met : Triple 𝓤 (𝓣 .C callee) Lookup) where
     abbrev entry : Lft → Share → RefT (List ℕ) → Place → ending 𝓤 H A W any.ended (PlainClauses Needs found 𝓤) .Ghost
     entry κ q s p = (((κ, tt), (q, tt), tt, (s, (p, tt)), (bytes s ∷ [], (P′.lowered p ∷ [], tt))), tt)
 

@@ -1,5 +1,4 @@
 mod Gain
 mod Queue
 mod Reasons
-mod Told
 mod Rounds

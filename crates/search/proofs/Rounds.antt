@@ -7,15 +7,14 @@ use mathlib.Core.Path.{_≡_, refl, sym, subst, _∙_}
 use lib.Dec.{T}
 use Rattle.finite.specs.Count.{count-within}
 use Rattle.marks.specs.Marks.{marked}
-use Rattle.marks.specs.Search.{Only}
-use Rattle.search.specs.Row.{members, In, Empty, AllIn}
+use Rattle.marks.specs.Search.{Only, none-only}
+use Rattle.search.specs.Row.{members, In, Empty, AllIn, in-marked, marked-in}
 use Rattle.search.specs.Exhausted.{Narrow}
 use Rattle.search.specs.Trail.{_!_, Takers, Givers, takersOf, giversOf, Trail}
 use Rattle.search.specs.Searched.{Listed, Searched}
 use Rattle.search.specs.Steps.{Put, Joined, Seeded, Longer, Following, Onward, Visiting}
 use Rattle.search.proofs.Gain.{gain-cases, gain-keeps, gain-has}
 use Rattle.search.proofs.Queue.{kept, below-next, none-listed, listed-more}
-use Rattle.search.proofs.Told.{unlisted}
 use Rattle.search.proofs.Reasons.{trail-start, trail-taker, trail-giver, taker-below, giver-below}
 
 pub seed-start : {share row queue : List ℕ} → Empty row → Seeded share 0 row queue 0
@@ -75,6 +74,13 @@ follow-start {t = t} q =
       longer = longer-same t q;
       trail = λ pred share n g narrow giver early r. r;
     }
+
+-- what a search in two rows says of the second as a set
+pub all-in : {rows row : List ℕ} {i : ℕ} → ((x : ℕ) → Only rows i row 0 x → ⊥) → AllIn rows i row
+all-in {rows} {row} {i} none x l m = marked-in row x l (none-only rows i row 0 none x l m)
+
+pub unlisted : {rows row : List ℕ} {i x : ℕ} → Only rows i row 0 x → In row x → ⊥
+unlisted {row = row} {x = x} o h = o .second (in-marked row x h)
 
 pub follow-more : {fed : List ℕ} {u : ℕ} {t s : Takers} {x : ℕ} {row queue origin : List ℕ} → Following fed u t s
     → Only fed u (s .row) 0 x → Joined (s .row) row x (s .queue) queue (s .tail) x → Put (s .origin) origin (s .tail) u

@@ -18,11 +18,8 @@ use Rattle.search.specs.Row.{In, in-marked, marked-in}
 use Rattle.search.specs.Exhausted.{Narrow}
 use Rattle.search.specs.Searched.{Searched}
 use Rattle.search.specs.Trail.{_!_, Takers, Givers, takersOf, giversOf}
-use Rattle.ids.specs.declared.Event.{Event}
-use Rattle.exchange.specs.declared.Giver.{Giver}
-use Rattle.exchange.specs.declared.Giver.the-variants.{At, Nothing}
-use Rattle.exchange.specs.Walk.{TrailRows, trailRows, IsReady, TellsGiver, Walked}
-use Rattle.settle.specs.Finished.{Finished, HasFree, FreeSaid, Advanced, Rounded}
+use Rattle.exchange.specs.Walk.{TrailRows, trailRows, IsReady, Walked}
+use Rattle.settle.specs.Finished.{Finished, HasFree, Advanced, Rounded}
 
 -- takers and givers are events
 pub narrow : {n : ℕ} {pred : List ℕ} {r : Rows} → Flowing n pred r → Order n pred → Narrow pred (r .fed) n
@@ -105,18 +102,3 @@ module _ (row : List ℕ) (u : ℕ) {said : Bool} (e : said ≡ marked row 0 u) 
 
   pub met : not said ≡ false → u < 256 → In row u
   met h l = marked-in row u l (subst T (sym (sym e ∙ not-false _ h)) tt)
-
--- what a test for tokens free says of a giver
-pub free-yes : (givers free : List ℕ) (n u : ℕ) {said : Bool} → FreeSaid givers free u said → said ≡ true → u < n → HasFree givers free n u
-free-yes givers free n u s e l = let h = subst (FreeSaid givers free u) e s in record { event = l; met = h .0; some = h .1 }
-
-pub free-no : (givers free : List ℕ) (n u : ℕ) {said : Bool} → FreeSaid givers free u said → said ≡ false → HasFree givers free n u → ⊥
-free-no givers free n u s e h = subst (FreeSaid givers free u) e s (h .met) (h .some)
-
--- what a search for such a giver says
-module _ (givers free : List ℕ) (n : ℕ) {found : Giver} (told : TellsGiver (HasFree givers free n) found) where
-  pub found-free : {u : Event} → found ≡ At u → HasFree givers free n (u .0)
-  found-free e = subst (TellsGiver (HasFree givers free n)) e told
-
-  pub found-none : found ≡ Nothing → (u : ℕ) → HasFree givers free n u → ⊥
-  found-none e = subst (TellsGiver (HasFree givers free n)) e told

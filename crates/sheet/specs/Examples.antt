@@ -9,7 +9,9 @@ use Rattle.finite.specs.Bounded.{any}
 use Rattle.plan.specs.Order.{before, beforeBy}
 use Rattle.sheet.specs.Table.{start, count, limit, itemLength, item, bodyEnd, due}
 use Rattle.sheet.specs.Items.{openingAt, takesAt, givesAt, labelAt, earlierAt, laterAt, netOf, planOf}
-use Rattle.sheet.specs.Faults.{tooShort, overLimitAt, overLimit, misplacedAt, misplaced, wrongEnd, overOpeningAt, overOpening, overWeightAt, overWeightIn, overWeight, noTransitionAt, noTransition, noEventAt, noEvent, selfPairAt, selfPair, samePair, repeatAt, repeated, cycleAt, cyclic, layoutFaults, itemFaults, orderFaults, contentFaults, faults, firstFault, faultOf}
+use Rattle.sheet.specs.Faults.{tooShort, overLimitAt, overLimit, misplacedAt, misplaced, wrongEnd, overOpeningAt, overOpening, overWeightAt, overWeightIn, overWeight}
+use Rattle.sheet.specs.Faults.{noTransitionAt, noTransition, noEventAt, noEvent, selfPairAt, selfPair, samePair, repeatAt, repeated, cycleAt}
+use Rattle.sheet.specs.Faults.{cyclic, layoutFaults, itemFaults, orderFaults, contentFaults, faults, firstFault, faultOf}
 
 -- a table of four entries, of numbers below 256: each start and count
 table : ℕ → ℕ → ℕ → ℕ → ℕ → ℕ → ℕ → ℕ → List ℕ

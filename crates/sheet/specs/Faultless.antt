@@ -13,7 +13,8 @@ use Rattle.plan.specs.Order.{Before, pair, chain, before, Sound}
 use Rattle.plan.specs.Closure.{before-test}
 use Rattle.sheet.specs.Table.{placesOf, transitionsOf, eventsOf, pairsOf}
 use Rattle.sheet.specs.Items.{openingAt, takesAt, givesAt, labelAt, earlierAt, laterAt, netOf, planOf}
-use Rattle.sheet.specs.Faults.{overOpeningAt, overOpening, overWeightAt, overWeightIn, overWeight, noTransitionAt, noTransition, noEventAt, noEvent, selfPairAt, selfPair, repeated, samePair, repeatAt, cycleAt, cyclic, layoutFaults, itemFaults, orderFaults, contentFaults, faults, firstFault, faultOf}
+use Rattle.sheet.specs.Faults.{overOpeningAt, overOpening, overWeightAt, overWeightIn, overWeight, noTransitionAt, noTransition, noEventAt, noEvent, selfPairAt, selfPair}
+use Rattle.sheet.specs.Faults.{repeated, samePair, repeatAt, cycleAt, cyclic, layoutFaults, itemFaults, orderFaults, contentFaults, faults, firstFault, faultOf}
 use Rattle.sheet.specs.Laid.{Laid, limited, laid}
 
 -- no fault of a list is there

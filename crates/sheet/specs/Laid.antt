@@ -67,7 +67,7 @@ laid s known none ends =
     }
 
 -- an item of n lies within their body
-pub item-within : (k i n : ℕ) → i < n → k * i + k ≤ k * n
+item-within : (k i n : ℕ) → i < n → k * i + k ≤ k * n
 item-within k i n l = rw mul-suc at (mul-le-mul-left {m = suc i} k l)
 
 -- how far all items of the transitions reach

@@ -8,7 +8,7 @@ use Rattle.layout.specs.Layout.{within}
 use Rattle.fault.proofs.examine.Statement.{statement}
 use Rattle.fault.proofs.examine.Tie as tie
 
-absent : (c : tie.Else1) → let start : tie.Start = search in firstFault layoutFaults (now (start .args .s)) ≡ 0
+absent : (c : tie.Else1) → firstFault layoutFaults (now (c .before .before .before .args .s)) ≡ 0
 absent c = sym (c .before .layout-fault .ensures) ∙ c .if1 .left
 
 returns : tie.Need-returns

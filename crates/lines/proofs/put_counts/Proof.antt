@@ -1,66 +1,47 @@
--- `lines::put_counts` meets its contract.
+-- `lines::put_counts`: its texts are put one after another, each where the one before it ended.
 use native.Mathlib.Omega.{arith}
 use borrow.Author.Needs.{needs}
 use Rattle.text.specs.Words.{word}
-use Rattle.text.specs.Put.{put-then}
 use Rattle.lines.specs.Listing.{placeLine}
+use Rattle.lines.specs.Each.{_then_}
 use Rattle.lines.proofs.put_counts.Statement.{statement}
 use Rattle.lines.proofs.put_counts.Tie as tie
 
-slice-aggregate-put-field : tie.Need-slice-aggregate-put-field
-slice-aggregate-put-field c = search needs
+abbrev place : tie.After-put-signed → tie.After-put-field
+place c = search
 
-put-field-requires : tie.Need-put-field-requires
-put-field-requires c κs = search needs
+abbrev opening : tie.After-put-signed → tie.After-put-field2
+opening c = search
 
-slice-aggregate-put-field-2 : tie.Need-slice-aggregate-put-field-2
-slice-aggregate-put-field-2 c = search needs
-
-put-field-requires-2 : tie.Need-put-field-requires-2
-put-field-requires-2 c κs = search needs
-
-slice-aggregate-put-word : tie.Need-slice-aggregate-put-word
-slice-aggregate-put-word c = search needs
-
-put-word-requires : tie.Need-put-word-requires
-put-word-requires c κs = search needs
-
-put-signed-requires : tie.Need-put-signed-requires
-put-signed-requires c κs = search needs
-
-slice-aggregate-put-field-3 : tie.Need-slice-aggregate-put-field-3
-slice-aggregate-put-field-3 c = search needs
-
-put-field-requires-3 : tie.Need-put-field-requires-3
-put-field-requires-3 c κs = search needs
-
-slice-aggregate-put-word-2 : tie.Need-slice-aggregate-put-word-2
-slice-aggregate-put-word-2 c = search needs
-
-put-word-requires-2 : tie.Need-put-word-requires-2
-put-word-requires-2 c κs = search needs
-
-same-length : tie.Need-same-length
-same-length c = search needs
+abbrev name : tie.After-put-signed → tie.After-put-word
+name c = search
 
 returns : tie.Need-returns
 unfolding word placeLine
-returns c = ((put-then (put-then (put-then (put-then (put-then (c .before .before .before .before .before .before .before .before .before .before .before .before .before .before .before .before .before .before .before .before .before .before .before .before .before .before .put-field .ensures .0) (c .before .before .before .before .before .before .before .before .before .before .before .before .before .before .before .before .before .before .before .before .before .put-field2 .ensures .0)) (c .before .before .before .before .before .before .before .before .before .before .before .before .before .before .before .before .put-word .ensures)) (c .before .before .before .before .before .before .before .before .before .before .before .before .put-signed .ensures .0)) (c .before .before .before .before .before .before .before .put-field3 .ensures .0)) (c .before .before .put-word2 .ensures)), omega arith)
+returns c =
+    let count : tie.After-put-signed = search in
+    let missing : tie.After-put-field3 = search in
+    let end : tie.After-put-word2 = search in
+    let a = place count .put-field .ensures in
+    let b = opening count .put-field2 .ensures in
+    let d = name count .put-word .ensures in
+    (a .0 then b .0 then d then count .put-signed .ensures .0 then missing .put-field3 .ensures .0 then end .put-word2 .ensures, omega (arith, a .1, b .1, d .ends))
 
 pub put-counts-spec : {M : Type 1} → statement M
 put-counts-spec =
     tie.close
     (tie.spec
-    slice-aggregate-put-field
-    put-field-requires
-    slice-aggregate-put-field-2
-    put-field-requires-2
-    slice-aggregate-put-word
-    put-word-requires
-    put-signed-requires
-    slice-aggregate-put-field-3
-    put-field-requires-3
-    slice-aggregate-put-word-2
-    put-word-requires-2
-    same-length
+    (λ c. search needs)
+    (λ c. search needs)
+    (λ c κs. search needs)
+    (λ c. search needs)
+    (λ c κs. search needs)
+    (λ c. search needs)
+    (λ c κs. search needs)
+    (λ c κs. search needs)
+    (λ c. search needs)
+    (λ c κs. search needs)
+    (λ c. search needs)
+    (λ c κs. search needs)
+    (λ c. search needs)
     returns)

@@ -1,4 +1,4 @@
--- `lines::put_done` meets its contract.
+-- `lines::put_done`: nothing is put exactly if no event is done.
 use native.Mathlib.Omega.{arith}
 use borrow.Author.Needs.{needs}
 use Rattle.text.specs.Words.{word}
@@ -6,36 +6,26 @@ use Rattle.lines.specs.Each.{done-none, done-some}
 use Rattle.lines.proofs.put_done.Statement.{statement}
 use Rattle.lines.proofs.put_done.Tie as tie
 
-put-events-requires : tie.Need-put-events-requires
-put-events-requires c κs = search needs
-
-slice-aggregate-put-word : tie.Need-slice-aggregate-put-word
-slice-aggregate-put-word c = search needs
-
-put-word-requires : tie.Need-put-word-requires
-put-word-requires c κs = search needs
-
-same-length : tie.Need-same-length
-same-length c = search needs
-
 returns : tie.Need-returns
 unfolding word
-returns c = (done-none _ _ _ _ _ _ (c .before .before .before .before .before .before .before .before .put-events .ensures .0) _ _ (c .before .before .before .before .before .if1 .taken) (c .before .before .put-word .ensures), omega arith)
-
-same-length-2 : tie.Need-same-length-2
-same-length-2 c = search needs
+returns c =
+    let put : tie.After-put-events = search in
+    let none : tie.After-put-word = search in
+    (done-none _ _ (put .put-events .ensures .0) (omega arith) (none .put-word .ensures), omega arith)
 
 returns-2 : tie.Need-returns-2
-returns-2 c = (done-some _ _ _ _ _ _ (c .before .before .before .put-events .ensures .0) (c .if1 .left), c .before .before .before .put-events .ensures .1)
+returns-2 c =
+    let put : tie.After-put-events = search in
+    (done-some _ _ (put .put-events .ensures .0) (λ e. omega arith), put .put-events .ensures .1)
 
 pub put-done-spec : {M : Type 1} → statement M
 put-done-spec =
     tie.close
     (tie.spec
-    put-events-requires
-    slice-aggregate-put-word
-    put-word-requires
-    same-length
+    (λ c κs. search needs)
+    (λ c. search needs)
+    (λ c κs. search needs)
+    (λ c. search needs)
     returns
-    same-length-2
+    (λ c. search needs)
     returns-2)

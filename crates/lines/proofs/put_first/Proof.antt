@@ -1,49 +1,31 @@
--- `lines::put_first` meets its contract.
+-- `lines::put_first`: its texts are put one after another, each where the one before it ended.
 use borrow.Author.Needs.{needs}
 use Rattle.text.specs.Words.{word}
-use Rattle.text.specs.Put.{put-then}
 use Rattle.lines.specs.Listing.{firstLine}
+use Rattle.lines.specs.Each.{_then_}
 use Rattle.lines.proofs.put_first.Statement.{statement}
 use Rattle.lines.proofs.put_first.Tie as tie
 
-slice-aggregate-put-field : tie.Need-slice-aggregate-put-field
-slice-aggregate-put-field c = search needs
-
-put-field-requires : tie.Need-put-field-requires
-put-field-requires c κs = search needs
-
-slice-aggregate-put-word : tie.Need-slice-aggregate-put-word
-slice-aggregate-put-word c = search needs
-
-put-word-requires : tie.Need-put-word-requires
-put-word-requires c κs = search needs
-
-put-done-requires : tie.Need-put-done-requires
-put-done-requires c κs = search needs
-
-slice-aggregate-put-word-2 : tie.Need-slice-aggregate-put-word-2
-slice-aggregate-put-word-2 c = search needs
-
-put-word-requires-2 : tie.Need-put-word-requires-2
-put-word-requires-2 c κs = search needs
-
-same-length : tie.Need-same-length
-same-length c = search needs
-
 returns : tie.Need-returns
 unfolding word firstLine
-returns c = put-then (put-then (put-then (c .before .before .before .before .before .before .before .before .before .before .before .before .before .before .before .before .put-field .ensures .0) (c .before .before .before .before .before .before .before .before .before .before .before .put-word .ensures)) (c .before .before .before .before .before .before .before .put-done .ensures .0)) (c .before .before .put-word2 .ensures)
+returns c =
+    let place : tie.After-put-field = search in
+    let name : tie.After-put-word = search in
+    let events : tie.After-put-done = search in
+    let end : tie.After-put-word2 = search in
+    place .put-field .ensures .0 then name .put-word .ensures then events .put-done .ensures .0 then end .put-word2 .ensures
 
 pub put-first-spec : {M : Type 1} → statement M
 put-first-spec =
     tie.close
     (tie.spec
-    slice-aggregate-put-field
-    put-field-requires
-    slice-aggregate-put-word
-    put-word-requires
-    put-done-requires
-    slice-aggregate-put-word-2
-    put-word-requires-2
-    same-length
+    (λ c. search needs)
+    (λ c. search needs)
+    (λ c κs. search needs)
+    (λ c. search needs)
+    (λ c κs. search needs)
+    (λ c κs. search needs)
+    (λ c. search needs)
+    (λ c κs. search needs)
+    (λ c. search needs)
     returns)

@@ -1,37 +1,25 @@
--- `lines::put_refused` meets its contract.
+-- `lines::put_refused`: its texts are put one after another, each where the one before it ended.
 use borrow.Author.Needs.{needs}
 use Rattle.text.specs.Words.{word}
-use Rattle.text.specs.Put.{put-then}
 use Rattle.lines.specs.Listing.{refusedLine}
+use Rattle.lines.specs.Each.{_then_}
 use Rattle.lines.proofs.put_refused.Statement.{statement}
 use Rattle.lines.proofs.put_refused.Tie as tie
 
-slice-aggregate-put-field : tie.Need-slice-aggregate-put-field
-slice-aggregate-put-field c = search needs
-
-put-field-requires : tie.Need-put-field-requires
-put-field-requires c κs = search needs
-
-slice-aggregate-put-word : tie.Need-slice-aggregate-put-word
-slice-aggregate-put-word c = search needs
-
-put-word-requires : tie.Need-put-word-requires
-put-word-requires c κs = search needs
-
-same-length : tie.Need-same-length
-same-length c = search needs
-
 returns : tie.Need-returns
 unfolding word refusedLine
-returns c = put-then (c .before .before .before .before .before .before .before .put-field .ensures .0) (c .before .before .put-word .ensures)
+returns c =
+    let fault : tie.After-put-field = search in
+    let end : tie.After-put-word = search in
+    fault .put-field .ensures .0 then end .put-word .ensures
 
 pub put-refused-spec : {M : Type 1} → statement M
 put-refused-spec =
     tie.close
     (tie.spec
-    slice-aggregate-put-field
-    put-field-requires
-    slice-aggregate-put-word
-    put-word-requires
-    same-length
+    (λ c. search needs)
+    (λ c κs. search needs)
+    (λ c. search needs)
+    (λ c κs. search needs)
+    (λ c. search needs)
     returns)

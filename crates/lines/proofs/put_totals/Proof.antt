@@ -1,46 +1,29 @@
--- `lines::put_totals` meets its contract.
+-- `lines::put_totals`: its texts are put one after another, each where the one before it ended.
 use native.Mathlib.Omega.{arith}
 use borrow.Author.Needs.{needs}
 use Rattle.text.specs.Words.{word}
-use Rattle.text.specs.Put.{put-then}
 use Rattle.lines.specs.Listing.{totalsLine}
+use Rattle.lines.specs.Each.{_then_}
 use Rattle.lines.proofs.put_totals.Statement.{statement}
 use Rattle.lines.proofs.put_totals.Tie as tie
 
-slice-aggregate-put-field : tie.Need-slice-aggregate-put-field
-slice-aggregate-put-field c = search needs
-
-put-field-requires : tie.Need-put-field-requires
-put-field-requires c κs = search needs
-
-slice-aggregate-put-field-2 : tie.Need-slice-aggregate-put-field-2
-slice-aggregate-put-field-2 c = search needs
-
-put-field-requires-2 : tie.Need-put-field-requires-2
-put-field-requires-2 c κs = search needs
-
-slice-aggregate-put-word : tie.Need-slice-aggregate-put-word
-slice-aggregate-put-word c = search needs
-
-put-word-requires : tie.Need-put-word-requires
-put-word-requires c κs = search needs
-
-same-length : tie.Need-same-length
-same-length c = search needs
-
 returns : tie.Need-returns
 unfolding word totalsLine
-returns c = ((put-then (put-then (c .before .before .before .before .before .before .before .before .before .before .before .before .put-field .ensures .0) (c .before .before .before .before .before .before .before .put-field2 .ensures .0)) (c .before .before .put-word .ensures)), omega arith)
+returns c =
+    let short : tie.After-put-field = search in
+    let total : tie.After-put-field2 = search in
+    let end : tie.After-put-word = search in
+    (short .put-field .ensures .0 then total .put-field2 .ensures .0 then end .put-word .ensures, omega arith)
 
 pub put-totals-spec : {M : Type 1} → statement M
 put-totals-spec =
     tie.close
     (tie.spec
-    slice-aggregate-put-field
-    put-field-requires
-    slice-aggregate-put-field-2
-    put-field-requires-2
-    slice-aggregate-put-word
-    put-word-requires
-    same-length
+    (λ c. search needs)
+    (λ c κs. search needs)
+    (λ c. search needs)
+    (λ c κs. search needs)
+    (λ c. search needs)
+    (λ c κs. search needs)
+    (λ c. search needs)
     returns)

@@ -1,92 +1,68 @@
--- `listed::put_lines` meets its contract.
-use Prim.Native.Nat.{ℕ, _*_}
+-- `listed::put_lines`: the row has the missing counts of the places, and the done set is that of the first short one.
 use native.Mathlib.Omega.{arith}
-use mathlib.Core.Path.{ap}
 use borrow.Author.Needs.{needs}
 use denote.Ref.{now}
-use Rattle.sheet.specs.Faultless.{Faultless, faultless}
-use Rattle.text.specs.Put.{put-then}
-use Rattle.listed.proofs.Judging.{free-of, free-told, lines-are}
+use Rattle.lines.specs.Each.{_then_}
+use Rattle.listed.proofs.Judging.{Told, missing-row, small, told, few-places, lines-are}
 use Rattle.listed.proofs.put_lines.Statement.{statement}
 use Rattle.listed.proofs.put_lines.Tie as tie
 
-known : (c : tie.Start) → Faultless (now (c .args .s))
-known c = faultless (now (c .args .s)) (c .pre .0)
+abbrev start : tie.After-sum-up → tie.Start
+start c = search
 
-entry-count-requires : tie.Need-entry-count-requires
-entry-count-requires c κs = (omega arith, known (c .before .before .before) .laid .limited .table)
+abbrev counted : tie.After-sum-up → tie.After-count-missing
+counted c = search
 
-entry-count-requires-2 : tie.Need-entry-count-requires-2
-entry-count-requires-2 c κs = (omega arith, known (c .before .before .before .before) .laid .limited .table)
+abbrev sum : tie.After-put-counts → tie.After-sum-up
+sum c = search
 
-entry-count-requires-3 : tie.Need-entry-count-requires-3
-entry-count-requires-3 c κs = (omega arith, known (c .before .before .before .before .before) .laid .limited .table)
+-- what the counts come to
+all : (c : tie.After-sum-up) → Told (now (start c .args .s)) (c .sum-up .result)
+all c = told _ (start c .pre .0) _ (start c .pre .1 .0) _ _ (counted c .count-missing .ensures .0) _ (c .sum-up .ensures)
 
-free-count-requires : tie.Need-free-count-requires
-free-count-requires c κs =
-    let k = known (c .before .before .before .before .before .before) in (
-      omega (arith, k .laid .limited .events),
-      omega (arith, free-of _ k, ap (λ (n : ℕ). n * n) (c .before .entry-count2 .ensures .0)),
-    )
+count-missing-requires : tie.Need-count-missing-requires
+count-missing-requires c κs = let begun : tie.Start = search in (begun .pre .0, (begun .pre .1 .0, (begun .pre .1 .1 .0, omega arith)))
 
-cast-put-plan : tie.Need-cast-put-plan
-cast-put-plan c = search needs
+sum-up-requires : tie.Need-sum-up-requires
+sum-up-requires c κs =
+    let begun : tie.Start = search in
+    let here : tie.After-count-missing = search in
+    let filled = here .count-missing .ensures .0 in
+    (small _ (begun .pre .0) _ (begun .pre .1 .0) _ _ filled, omega (arith, filled .size))
 
-cast-put-plan-2 : tie.Need-cast-put-plan-2
-cast-put-plan-2 c = search needs
-
-put-plan-requires : tie.Need-put-plan-requires
-put-plan-requires c κs = search needs
-
-put-places-requires : tie.Need-put-places-requires
-put-places-requires c κs =
-    let start : tie.Start = search in
-    (known start, ((c .before .before .before .before .before .before .before .before .entry-count .ensures .0, start .pre .1 .0), omega arith))
-
-put-totals-requires : tie.Need-put-totals-requires
-put-totals-requires c κs = search needs
+put-counts-requires : tie.Need-put-counts-requires
+put-counts-requires c κs =
+    let summed : tie.After-sum-up = search in
+    let pre = start summed .pre in
+    let row = missing-row _ (pre .0) _ (pre .1 .0) _ _ (counted summed .count-missing .ensures .0) in
+    (pre .0, (pre .1 .0, (row, (all summed .short, (all summed .total, pre .1 .1 .1)))))
 
 put-verdict-requires : tie.Need-put-verdict-requires
 put-verdict-requires c κs =
-    let start : tie.Start = search in (
-      start .pre .0,
-      (
-        (c .before .before .before .before .before .before .before .before .before .before .before .before .before .before .before .entry-count2 .ensures .0, start .pre .1 .1 .1 .0),
-        omega arith,
-      ),
-    )
-
-same-length : tie.Need-same-length
-same-length c = search needs
+    let summed : tie.After-sum-up = search in
+    let put : tie.After-put-counts = search in
+    let pre = start summed .pre in
+    let text = put .put-counts .ensures in
+    (few-places _ (pre .0) _ (all summed), (omega (arith, pre .1 .0 .events, pre .0 .laid .limited .events), omega (arith, text .0 .size, text .1, pre .1 .1 .1)))
 
 returns : tie.Need-returns
 returns c =
-    let totalled = c .before .before .before .before .before .before in
-    let placed = totalled .before .before .before .before in
-    let planned = placed .before .before .before .before in
-    let freed = planned .before .before in
-    let paired = freed .before in
-    let counted = paired .before in
-    let start = counted .before .before .before .before .before in
-    let e = counted .entry-count2 .ensures .0 in
-    let i = paired .entry-count3 .ensures .0 in
-    let totals = start .pre .1 .1 .0 in
-    rw (lines-are (now (start .args .s)) _ _ _ _ _ _ e i (free-told _ (known start) _ _ _ e i (freed .free-count .ensures)) (totals .1) (totals .0) (start .pre .1 .1 .1 .0))
-    (put-then (put-then (put-then (planned .put-plan .ensures .0) (placed .put-places .ensures .0)) (totalled .put-totals .ensures .0)) (c .before .before .put-verdict .ensures))
+    let put : tie.After-put-counts = search in
+    let last : tie.After-put-verdict = search in
+    let summed = sum put in
+    let pre = start summed .pre in
+    rw (lines-are _ (pre .0) _ (pre .1 .0) _ _ (counted summed .count-missing .ensures .1) (all summed .verdict))
+    (put .put-counts .ensures .0 then last .put-verdict .ensures)
 
 pub put-lines-spec : {M : Type 1} → statement M
 put-lines-spec =
     tie.close
     (tie.spec
-    entry-count-requires
-    entry-count-requires-2
-    entry-count-requires-3
-    free-count-requires
-    cast-put-plan
-    cast-put-plan-2
-    put-plan-requires
-    put-places-requires
-    put-totals-requires
+    (λ c. search needs)
+    count-missing-requires
+    (λ c. search needs)
+    sum-up-requires
+    put-counts-requires
     put-verdict-requires
-    same-length
+    (λ c. search needs)
     returns)

@@ -1,4 +1,4 @@
--- `listed::write_listing` meets its contract.
+-- `listed::write_listing`: the text is put into a row of its own, and copied from there if it fits.
 use native.Mathlib.Omega.{arith}
 use mathlib.Core.Path.{_≡_, sym}
 use borrow.Author.Needs.{needs}
@@ -8,20 +8,11 @@ use Rattle.listed.proofs.Copying.{too-short, copied}
 use Rattle.listed.proofs.write_listing.Statement.{statement}
 use Rattle.listed.proofs.write_listing.Tie as tie
 
-slice-aggregate-put-listing : tie.Need-slice-aggregate-put-listing
-slice-aggregate-put-listing c = search needs
+abbrev put : tie.After-text3 → tie.After-put-listing
+put c = search
 
-put-listing-requires : tie.Need-put-listing-requires
-put-listing-requires c κs = search needs
-
-returns : tie.Need-returns
-returns c = too-short _ _ _ _ _ (c .before .before .put-listing .ensures) (c .if1 .taken)
-
-array-share-prefix-text : tie.Need-array-share-prefix-text
-array-share-prefix-text c = search needs
-
--- the part of the buffer that is the text
-part : (c : tie.After-text3) → length (take (c .before .before .before .before .put-listing .result) (c .before .before .before .before .put-listing .last .1 .0)) ≡ c .before .before .before .before .put-listing .result
+-- the part of the row that is the text
+part : (c : tie.After-text3) → length (take (put c .put-listing .result) (put c .put-listing .last .1 .0)) ≡ put c .put-listing .result
 part c = length-take-le _ _ (omega arith)
 
 slice-aggregate-put-word : tie.Need-slice-aggregate-put-word
@@ -30,21 +21,24 @@ slice-aggregate-put-word c = sym (part c)
 put-word-requires : tie.Need-put-word-requires
 put-word-requires c κs = omega (arith, part c)
 
-same-length : tie.Need-same-length
-same-length c = search needs
+returns : tie.Need-returns
+returns c = let text : tie.After-put-listing = search in too-short _ _ _ _ _ (text .put-listing .ensures) (omega arith)
 
 returns-2 : tie.Need-returns-2
-returns-2 c = copied _ _ _ _ _ (c .before .before .before .before .before .before .before .put-listing .ensures) _ _ (c .before .before .before .before .before .if1 .left) (c .before .before .put-word .ensures)
+returns-2 c =
+    let text : tie.After-put-listing = search in
+    let copy : tie.After-put-word = search in
+    copied _ _ _ _ _ (text .put-listing .ensures) _ _ (omega arith) (copy .put-word .ensures)
 
 pub write-listing-spec : {M : Type 1} → statement M
 write-listing-spec =
     tie.close
     (tie.spec
-    slice-aggregate-put-listing
-    put-listing-requires
+    (λ c. search needs)
+    (λ c κs. search needs)
     returns
-    array-share-prefix-text
+    (λ c. search needs)
     slice-aggregate-put-word
     put-word-requires
-    same-length
+    (λ c. search needs)
     returns-2)

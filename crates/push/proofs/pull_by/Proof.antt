@@ -2,7 +2,6 @@
 use borrow.Author.Needs.{needs}
 use Rattle.marks.specs.Search.{Both}
 use Rattle.drawing.specs.Moves.{moves}
-use Rattle.push.proofs.Told.{told-both}
 use Rattle.push.proofs.pull_by.Statement.{statement}
 use Rattle.push.proofs.pull_by.Tie as tie
 
@@ -12,7 +11,7 @@ start c = search
 -- the giver found is before w
 there : (c : tie.After-found) → let a = start c .args in
     Both (a .pred .now) (a .w .0) (a .sets .now) (a .level) (c .found .given .0 .0)
-there c = search told-both
+there c = let told = rw (c .found .given .1) at (c .before .before .last-common .ensures) in search
 
 exchange-requires : tie.Need-exchange-requires
 exchange-requires c κs =

@@ -1,16 +1,12 @@
 -- Rests on the giver found: a mark's number is that of an event.
-use Prim.Native.Nat.{_+_, _<_}
+use Prim.Native.Nat.{_<_}
 use native.Mathlib.Omega.{arith}
 use borrow.Author.Needs.{needs}
-use lib.ListN.{replicate}
-use Rattle.push.proofs.Told.{told-only}
 use Rattle.push.proofs.pull_next.Statement.{statement}
 use Rattle.push.proofs.pull_next.Tie as tie
 
 below : (c : tie.After-found) → c .found .given .0 .0 < 256
-below c =
-    let start : tie.Start = search in
-    told-only (start .args .sets .now) (256 + start .args .lower) (replicate 8 0) 0 (c .found .given .1) (search) .below
+below c = (rw (c .found .given .1) at (c .before .before .last-only .ensures)) .below
 
 unmark-requires : tie.Need-unmark-requires
 unmark-requires c κs =

@@ -1,7 +1,6 @@
 -- Rests on the taker found: v is marked as feeding it, so both are events.
 use borrow.Author.Needs.{needs}
 use Rattle.marks.specs.Search.{Both}
-use Rattle.push.proofs.Told.{told-both}
 use Rattle.push.proofs.pull_once.Statement.{statement}
 use Rattle.push.proofs.pull_once.Tie as tie
 
@@ -11,7 +10,7 @@ start c = search
 -- v feeds the taker found
 there : (c : tie.After-found) → let a = start c .args in
     Both (a .fed .now) (a .v .0) (a .within .now) 0 (c .found .given .0 .0)
-there c = search told-both
+there c = let told = rw (c .found .given .1) at (c .before .before .last-common .ensures) in search
 
 pull-by-requires : tie.Need-pull-by-requires
 pull-by-requires c κs =

@@ -6,8 +6,7 @@ use Rattle.marks.specs.Search.{Only}
 use Rattle.search.specs.Trail.{takersOf}
 use Rattle.search.specs.Steps.{Following}
 use Rattle.search.proofs.Queue.{room}
-use Rattle.search.proofs.Told.{told-at, told-all, unlisted}
-use Rattle.search.proofs.Rounds.{follow-start, follow-more}
+use Rattle.search.proofs.Rounds.{all-in, unlisted, follow-start, follow-more}
 use Rattle.search.proofs.follow.Statement.{statement}
 use Rattle.search.proofs.follow.Tie as tie
 
@@ -24,14 +23,14 @@ head c = search
 -- u feeds x, which is not yet listed
 fresh : (c : tie.After-x Inv-loop μ-loop)
     → Only (head c .before .args .fed .now) (head c .before .args .u .0) (head c .loop .takers) 0 (c .x .given .0 .0)
-fresh c = search told-at
+fresh c = let told = rw (c .x .given .1) at (c .before .before .last-only .ensures) in search
 
 -- there is room for it
 fits : (c : tie.After-x Inv-loop μ-loop) → head c .loop .end < 256
 fits c = room (head c .loop .inv .longer .queued) (c .x .given .0 .0) (fresh c .below) (unlisted (fresh c))
 
 returns : tie.Need-returns Inv-loop μ-loop
-returns c = search (needs, told-all)
+returns c = (search, all-in (rw (c .enum-told .given .1) at (c .before .before .last-only .ensures)))
 
 list-requires : tie.Need-list-requires Inv-loop μ-loop
 list-requires c κs =

@@ -8,8 +8,7 @@ use Rattle.search.specs.Row.{members, in-below}
 use Rattle.search.specs.Trail.{_!_, takersOf, giversOf}
 use Rattle.search.specs.Steps.{Visiting}
 use Rattle.search.proofs.Queue.{listed-le, fewer-left}
-use Rattle.search.proofs.Told.{told-at, told-all, unlisted}
-use Rattle.search.proofs.Rounds.{visit-start, visit-more}
+use Rattle.search.proofs.Rounds.{all-in, unlisted, visit-start, visit-more}
 use Rattle.search.proofs.visit.Statement.{statement}
 use Rattle.search.proofs.visit.Tie as tie
 
@@ -37,7 +36,7 @@ top c = search
 fresh : (c : tie.After-x Inv-loop μ-loop)
     → let a = start c .args in
     Only (a .pred .now) (a .queue .now ! a .head) (top c .loop .givers) 0 (c .x .given .0 .0)
-fresh c = search told-at
+fresh c = let told = rw (c .x .given .1) at (c .before .before .last-only .ensures) in search
 
 last-only-requires : tie.Need-last-only-requires Inv-loop μ-loop
 last-only-requires c κs =
@@ -71,7 +70,7 @@ visit-spec =
     last-only-requires
     (λ c. search needs)
     (λ c. search needs)
-    (λ c. search (needs, told-all))
+    (λ c. (search, all-in (rw (c .enum-told .given .1) at (c .before .before .last-only .ensures))))
     (λ c κs. let below = fresh (search) .below in search needs)
     follow-requires
     loop-less

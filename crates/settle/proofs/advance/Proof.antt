@@ -2,7 +2,7 @@
 use borrow.Author.Needs.{needs}
 use Rattle.drawing.specs.Moves.{moves}
 use Rattle.settle.specs.Finished.{HasFree}
-use Rattle.settle.proofs.Rounds.{found-free, found-none, advance-some, advance-none}
+use Rattle.settle.proofs.Rounds.{advance-some, advance-none}
 use Rattle.settle.proofs.advance.Statement.{statement}
 use Rattle.settle.proofs.advance.Tie as tie
 
@@ -10,11 +10,12 @@ abbrev start : tie.After-found → tie.Start
 start c = search
 
 there : (c : tie.After-found) → let a = start c .args in HasFree (a .givers .now) (a .free .now) (a .n) (c .found .given .0 .0 .0)
-there c = found-free _ _ _ (c .before .before .find-free .ensures) (c .found .given .1)
+there c = let told = rw (c .found .given .1) at (c .before .before .find-free .ensures) in search
 
 returns : tie.Need-returns
 returns c =
-    (search (moves, needs), advance-none (found-none _ _ _ (c .before .before .find-free .ensures) (c .enum-told .given .1)))
+    let none = rw (c .enum-told .given .1) at (c .before .before .find-free .ensures) in
+    (search (moves, needs), advance-none (search))
 
 returns-2 : tie.Need-returns-2
 returns-2 c =

@@ -4,7 +4,6 @@ use native.Mathlib.Omega.{arith}
 use borrow.Author.Count.{below-none, below-more}
 use borrow.Author.Needs.{needs}
 use Rattle.settle.specs.Finished.{HasFree}
-use Rattle.settle.proofs.Rounds.{free-yes, free-no}
 use Rattle.settle.proofs.find_free.Statement.{statement}
 use Rattle.settle.proofs.find_free.Tie as tie
 
@@ -14,10 +13,16 @@ Inv-loop givers free n u₀ u = (u ≤ n) × ((k : ℕ) → k < u → HasFree gi
 abbrev μ-loop : tie.MeasureT-loop
 μ-loop givers free n u₀ u = n - u
 
+returns : tie.Need-returns Inv-loop μ-loop
+returns c =
+    let has = rw (c .if1 .taken) at (c .before .has-free .ensures) in
+    record { event = omega arith; met = has .0; some = has .1 }
+
 loop-again : tie.Need-loop-again Inv-loop μ-loop
 loop-again c =
     let at-loop : tie.At-loop Inv-loop μ-loop = search in
-    (omega arith, below-more _ _ (at-loop .loop .inv .1) (free-no _ _ _ _ (c .before .has-free .ensures) (c .if1 .left)))
+    let none = rw (c .if1 .left) at (c .before .has-free .ensures) in
+    (omega arith, below-more _ _ (at-loop .loop .inv .1) (λ h. none (h .met) (h .some)))
 
 pub find-free-spec : {M : Type 1} → statement M
 find-free-spec =
@@ -27,7 +32,7 @@ find-free-spec =
     μ-loop
     (λ c. (zero-le, below-none _))
     (λ c κs. search needs)
-    (λ c. free-yes _ _ _ _ (c .before .has-free .ensures) (c .if1 .taken) (omega arith))
+    returns
     (λ c. search needs)
     (λ c. search needs)
     loop-again
