@@ -1,52 +1,71 @@
 -- The answer of the flow check, at each place where it is given.
-use Prim.Native.Nat.{ℕ, zero, suc, _<_, _≤_}
+use Prim.Native.Nat.{ℕ, zero, suc, _+_, _<_, _≤_}
+use native.Mathlib.Omega.{arith}
 use mathlib.Core.Bool.{Bool, true, false}
 use mathlib.Core.List.{List}
-use mathlib.Core.Path.{_≡_, refl, sym, _∙_}
-use borrow.Author.Tests.{eqb-false}
+use mathlib.Core.Path.{_≡_, refl, sym, ap, _∙_}
+use lib.Dec.{leb, ltb}
 use lib.ListN.{length}
+use Rattle.ids.specs.Limits.{mostFlow}
 use Rattle.plan.specs.Flow.{valid}
-use Rattle.sheet.specs.Table.{placesOf}
 use Rattle.sheet.specs.Items.{netOf, planOf}
 use Rattle.sheet.specs.Faults.{faultOf}
-use Rattle.calls.specs.Call.{placeFault, sheet-first, no-place, a-place, lower-first, short-row, long-row}
+use Rattle.sheet.specs.Faultless.{Faultless, faultless}
+use Rattle.layout.specs.Layout.{LayoutOf, Within}
+use Rattle.layout.specs.declared.Layout.{Layout}
+use Rattle.order.specs.Rows.{OrderRows}
+use Rattle.fault.specs.declared.Examined.{Examined}
+use Rattle.calls.specs.Call.{placeFault, place-known, row-known}
 use Rattle.calls.specs.FlowRow.{flowLength, flowOf, flowFault}
+use Rattle.calls.specs.Refusal.{Next, FaultTold, place-link, row-link}
 use Rattle.flowcheck.specs.declared.Checked.the-variants.{Fault, Valid, Invalid}
 use Rattle.flowcheck.specs.Checked.{answer, checkedOf}
 
+-- the numbers of a flow row can be counted
+pub counted : {e r : Examined} {found : Bool} {k : ℕ} → Within (e .layout) → Next e found k r → r .layout .pairs + r .layout .events ≤ mostFlow
+counted few next =
+    omega (arith, ap (λ (l : Layout). l .pairs) (next .layout), ap (λ (l : Layout). l .events) (next .layout), few .pairs, few .events)
+
 module _ (s : List ℕ) (p : ℕ) (row : List ℕ) where
-  told : (k : ℕ) → ¬ (k ≡ 0) → flowFault s p row ≡ k → Fault k ≡ checkedOf s p row
+  told : (k : ℕ) → k ≡ flowFault s p row → ¬ (k ≡ 0) → Fault k ≡ checkedOf s p row
   unfolding checkedOf answer
-  told zero some e = absurd (some refl)
-  told (suc k) some e = simp e
+  told zero is some = absurd (some refl)
+  told (suc k) is some = simp (sym is)
 
-  place-told : (k : ℕ) → ¬ (k ≡ 0) → placeFault s p ≡ k → Fault k ≡ checkedOf s p row
-  unfolding flowFault
-  place-told k some e =
-      told k some (lower-first (placeFault s p) row (flowLength s) (λ z. some (sym e ∙ z)) ∙ e)
+  -- An examined sheet, the test of the place and that of the row.
+  module _ {succ pred : List ℕ} {e r t : Examined} (is : e .fault ≡ faultOf s)
+      (laid : e .fault ≡ 0 → LayoutOf s (e .layout) × OrderRows (planOf s) succ pred) (placed : Next e (leb (e .layout .places) p) 12 r)
+      (rowed : Next r (ltb (length row) (r .layout .pairs + r .layout .events)) 13 t) where
+    place : FaultTold s (placeFault s p) r
+    place = place-link s e p r (record { number = is; laid = λ none. laid (is ∙ none) .0 }) placed
 
-  pub sheet-fault : (k : ℕ) → k ≡ faultOf s → ¬ (k ≡ 0) → Fault k ≡ checkedOf s p row
-  sheet-fault k e some = place-told k some (sheet-first s p (λ z. some (e ∙ z)) ∙ sym e)
+    all : FaultTold s (flowFault s p row) t
+    unfolding flowFault
+    all =
+        row-link s (placeFault s p) r place row (length row) _ (flowLength s) t refl (λ l. omega (arith, l .pairs, l .events)) rowed
 
-  module _ (none : faultOf s ≡ 0) where
-    pub place-fault : placesOf s ≤ p → Fault 12 ≡ checkedOf s p row
-    place-fault l = place-told 12 (eqb-false 12 0 refl) (no-place s p none l)
+    pub fault-told : ¬ (t .fault ≡ 0) → Fault (t .fault) ≡ checkedOf s p row
+    fault-told some = told (t .fault) (all .number) some
 
-    module _ (place : p < placesOf s) where
-      pub row-fault : length row < flowLength s → Fault 13 ≡ checkedOf s p row
+    -- where no fault is told
+    module _ (clear : t .fault ≡ 0) where
+      none : flowFault s p row ≡ 0
+      none = sym (all .number) ∙ clear
+
+      pub ready : (Faultless s × LayoutOf s (r .layout))
+          × ((p < r .layout .places) × (r .layout .pairs + r .layout .events ≤ length row)) × OrderRows (planOf s) succ pred
       unfolding flowFault
-      row-fault l =
-          told 13 (eqb-false 13 0 refl) (short-row (placeFault s p) row (flowLength s) (a-place s p none place) l)
+      ready =
+          let long = row-known (placeFault s p) row (flowLength s) none in
+          let known = place-known s p (long .0) in
+          let l = place .laid (long .0) in
+          ((faultless s (known .0), l), (omega (arith, known .1, l .places), omega (arith, long .1, l .pairs, l .events)), laid (is ∙ known .0) .1)
 
-      module _ (long : flowLength s ≤ length row) (r : Bool) (is : r ≡ valid (netOf s) (planOf s) p (flowOf row)) where
-        clear : flowFault s p row ≡ 0
-        unfolding flowFault
-        clear = long-row (placeFault s p) row (flowLength s) (a-place s p none place) long
-
-        pub yes-told : r ≡ true → Valid ≡ checkedOf s p row
+      module _ {b : Bool} (judged : b ≡ valid (netOf s) (planOf s) p (flowOf row)) where
+        pub yes-told : b ≡ true → Valid ≡ checkedOf s p row
         unfolding checkedOf answer
-        yes-told e = simp (clear, sym is ∙ e)
+        yes-told e = simp (none, sym judged ∙ e)
 
-        pub no-told : r ≡ false → Invalid ≡ checkedOf s p row
+        pub no-told : b ≡ false → Invalid ≡ checkedOf s p row
         unfolding checkedOf answer
-        no-told e = simp (clear, sym is ∙ e)
+        no-told e = simp (none, sym judged ∙ e)

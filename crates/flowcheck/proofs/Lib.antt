@@ -1,3 +1,4 @@
+pub mod Tests
 pub mod Adding
-pub mod Rules
+pub mod Told
 pub mod Answers

@@ -1,2 +1,3 @@
+pub mod Kept
 pub mod Checked
 pub mod Sums

@@ -1,10 +1,10 @@
--- Share after share.
+-- The invariant: the total is that of the first v shares.
 use Prim.Native.Nat.{_≤_, _-_}
-use Rattle.flowcheck.proofs.Adding.{Shared, shares-start, shares-more}
-use mathlib.Core.Path.{ap, _∙_}
-use Rattle.flowcheck.specs.Sums.{sharesOf}
-use borrow.Author.Needs.{needs}
 use native.Mathlib.Omega.{arith}
+use mathlib.Core.Path.{ap, _∙_}
+use borrow.Author.Needs.{needs}
+use Rattle.flowcheck.specs.Sums.{sharesOf}
+use Rattle.flowcheck.proofs.Adding.{Shared, shares-start, shares-more}
 use Rattle.flowcheck.proofs.add_shares.Statement.{statement}
 use Rattle.flowcheck.proofs.add_shares.Tie as tie
 
@@ -15,34 +15,15 @@ abbrev μ-loop : tie.MeasureT-loop
 μ-loop row pairs events total₀ v₀ total v = events - v
 
 loop-holds : tie.Need-loop-holds Inv-loop μ-loop
-loop-holds c = (search needs, shares-start _ _)
-
-add-wide : tie.Need-add-wide Inv-loop μ-loop
-add-wide c = search needs
-
-mul-wide : tie.Need-mul-wide Inv-loop μ-loop
-mul-wide c = search needs
-
-shared-slice-read-wide : tie.Need-shared-slice-read-wide Inv-loop μ-loop
-shared-slice-read-wide c = search needs
-
-wide-requires : tie.Need-wide-requires Inv-loop μ-loop
-wide-requires c κs = search needs
-
-add-total : tie.Need-add-total Inv-loop μ-loop
-add-total c = omega (arith, c .before .before .before .loop .inv .1 .most, c .wide .ensures .1)
-
-add-v : tie.Need-add-v Inv-loop μ-loop
-add-v c = search needs
-
-loop-less : tie.Need-loop-less Inv-loop μ-loop
-loop-less c = search needs
+loop-holds c = (search needs, shares-start _ _ _ _ (omega arith) (omega arith))
 
 loop-again : tie.Need-loop-again Inv-loop μ-loop
-loop-again c = (search needs, shares-more _ _ _ _ _ (c .before .before .before .loop .inv .1) (c .wide .ensures .0) (c .wide .ensures .1))
+loop-again c =
+    let at-loop : tie.At-loop Inv-loop μ-loop = search in
+    (search needs, shares-more _ _ _ _ _ (at-loop .loop .inv .1) (cc) (omega arith))
 
 returns : tie.Need-returns Inv-loop μ-loop
-returns c = c .before .loop .inv .1 .value ∙ ap (sharesOf _ _) (omega (arith, c .before .loop .inv .0, c .loop-test .left))
+returns c = c .before .loop .inv .1 .value ∙ ap (sharesOf _ _) (omega arith)
 
 pub add-shares-spec : {M : Type 1} → statement M
 add-shares-spec =
@@ -51,12 +32,12 @@ add-shares-spec =
     Inv-loop
     μ-loop
     loop-holds
-    add-wide
-    mul-wide
-    shared-slice-read-wide
-    wide-requires
-    add-total
-    add-v
-    loop-less
+    (λ c. search needs)
+    (λ c. search needs)
+    (λ c. search needs)
+    (λ c κs. search needs)
+    (λ c. search needs)
+    (λ c. search needs)
+    (λ c. search needs)
     loop-again
     returns)

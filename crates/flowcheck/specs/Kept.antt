@@ -4,10 +4,20 @@ use mathlib.Core.Bool.{Bool, _&&_}
 use mathlib.Core.Logic.{_↔_}
 use lib.Dec.{T, leb, leb→le, le→leb}
 use mir.Facts.{and-yes, yes-and}
+use Rattle.plan.specs.Net.{Net, Plan, takenBy, givenBy}
+use Rattle.plan.specs.Flow.{Flow, inflow, outflow, rule1, rule2}
 
 -- 1. In(v) is at least what v takes. 2. Out(v) is at most in(v) − takes of v + gives of v, here without signs.
 unfoldable pub kept : ℕ → ℕ → ℕ → ℕ → Bool
 kept taken given arrived left = leb taken arrived && leb (left + taken) (arrived + given)
+
+-- both at event v
+abbrev pub keptAt : Net → Plan → ℕ → Flow → ℕ → Bool
+keptAt N P p x v = kept (takenBy N P p v) (givenBy N P p v) (inflow P x v) (outflow P x v)
+
+-- rules 1 and 2
+abbrev pub balanced : Net → Plan → ℕ → Flow → Bool
+balanced N P p x = rule1 N P p x && rule2 N P p x
 
 pub kept-holds : (taken given arrived left : ℕ) → T (kept taken given arrived left) ↔ ((taken ≤ arrived) × (left + taken ≤ arrived + given))
 unfolding kept

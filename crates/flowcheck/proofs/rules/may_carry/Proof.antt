@@ -1,0 +1,20 @@
+-- A pair that carries 0 may; any other has to be a skeleton pair.
+use mathlib.Core.Bool.{or-true, or-false}
+use borrow.Author.Tests.{eq-eqb, ne-eqb}
+use borrow.Author.Needs.{needs}
+use Rattle.flowcheck.proofs.rules.may_carry.Statement.{statement}
+use Rattle.flowcheck.proofs.rules.may_carry.Tie as tie
+
+returns : tie.Need-returns
+returns c = simp (eq-eqb _ _ (c .if1 .taken), or-true)
+
+returns-2 : tie.Need-returns-2
+returns-2 c = simp (ne-eqb _ _ (c .before .if1 .left), or-false) (c .is-skeleton .ensures)
+
+pub may-carry-spec : {M : Type 1} → statement M
+may-carry-spec =
+    tie.close
+    (tie.spec
+    returns
+    (λ c κs. search needs)
+    returns-2)
