@@ -5,7 +5,6 @@ use native.Mathlib.Omega.{arith}
 use mathlib.Core.List.{List}
 use mathlib.Core.Logic.{⊎-elim}
 use mathlib.Core.Path.{_≡_, sym, ap, subst, _∙_}
-use borrow.Author.Tests.{leb-false}
 use lib.Dec.{T, T-not, leb, leb→le, nleb→lt}
 use lib.ListN.{getD}
 use Rattle.finite.specs.Bounded.{decide}
@@ -19,7 +18,7 @@ use Rattle.theory.specs.Missing.{missing-opening}
 use Rattle.theory.specs.Tokenflow.{Tokenflow, Settled, least-within, settled-least, settled-smallest}
 use Rattle.tokenflow.specs.Rows.{fedBy, Rows, rowsAre}
 use Rattle.tokenflow.specs.Flowing.{Flowing, Kept, givenIn, takenIn, lacking}
-use Rattle.drawing.specs.Moves.{Moved, Order}
+use Rattle.drawing.specs.Moves.{Moved}
 use Rattle.search.specs.Row.{members}
 use Rattle.settle.specs.Finished.{Finished, Ended}
 use Rattle.least.specs.PlaceRows.{PlaceRows, Small, Unfed, unfed-gives, unfed-takes}
@@ -165,7 +164,3 @@ module _ (N : Net) (P : Plan) (p n : ℕ) (pred : List ℕ) (r₀ r : Rows) (at 
         set = λ above short. settled-smallest N P p (at .sound) y (λ u. getD (r .free) u 0) (λ w. getD (r .share) w 0) rows-flow (members (last .0)) (members givers) s short;
       })
       ended
-
-  -- what is before an event is an event
-  pub rows-order : Order n pred
-  rows-order = record { events = λ w u l t. omega (arith, at .events, at .before .only w u l t) }
