@@ -17,8 +17,8 @@ returns-2 c =
     let once : tie.Else1 = search in
     let closed : tie.After-close = search in
     let marks = test .mark-pairs .ensures .1 (once .if1 .left) in
-    let found = c .before .has-cycle .ensures ∙ cycle-found _ _ (start .pre .0) (start .pre .1 .0) _ _ _ marks (closed .close .ensures) in
-    ((omega arith) ∙ fault-11 _ (told (test .mark-pairs .ensures .0) (once .if1 .left)) (told found (c .if2 .taken)), λ e. absurd (omega arith))
+    let cycle = cycle-found _ _ (start .pre .0) (start .pre .1 .0) _ _ _ marks (closed .close .ensures) in
+    ((omega arith) ∙ fault-11 _ (told (test .mark-pairs .ensures .0) (once .if1 .left)) (search (told, cycle)), λ e. absurd (omega arith))
 
 returns-3 : tie.Need-returns-3
 returns-3 c =
@@ -26,11 +26,10 @@ returns-3 c =
     let test : tie.After-mark-pairs = search in
     let once : tie.Else1 = search in
     let closed : tie.After-close = search in
-    let acyclic : tie.Else2 = search in
     let turned : tie.After-close2 = search in
     let marks = test .mark-pairs .ensures .1 (once .if1 .left) in
-    let found = acyclic .before .has-cycle .ensures ∙ cycle-found _ _ (start .pre .0) (start .pre .1 .0) _ _ _ marks (closed .close .ensures) in (
-      (omega arith) ∙ no-fault _ (told (test .mark-pairs .ensures .0) (once .if1 .left)) (told found (acyclic .if2 .left)),
+    let cycle = cycle-found _ _ (start .pre .0) (start .pre .1 .0) _ _ _ marks (closed .close .ensures) in (
+      (omega arith) ∙ no-fault _ (told (test .mark-pairs .ensures .0) (once .if1 .left)) (search (told, cycle)),
       λ e. ordered _ _ (start .pre .0) (start .pre .1 .0) _ _ _ marks (closed .close .ensures) _ (turned .close2 .ensures),
     )
 
