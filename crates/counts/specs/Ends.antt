@@ -1,5 +1,5 @@
 -- The end count of a place of a sheet as what all events give, with the opening count, less what they take.
-use Prim.Native.Nat.{ℕ, _+_}
+use Prim.Native.Nat.{ℕ, _+_, _≤_}
 use native.Mathlib.Omega.{arith}
 use mathlib.Core.List.{List}
 use mathlib.Core.Path.{_≡_, sym, ap, _∙_}
@@ -30,9 +30,9 @@ end-is s p = simp over-full (tokens-minus (openingAt s p) (sum (eventsOf s) (λ 
 
 -- What a loop knows that adds one event after another.
 module _ (s : List ℕ) (p : ℕ) where
-  pub gained-start : openingAt s p ≡ gainedBy s p 0
+  pub gained-start : (x : ℕ) → x ≡ openingAt s p → x ≡ gainedBy s p 0
   unfolding gainedBy
-  gained-start = omega (arith, sum-start (λ v. givesAt s (labelAt s v) p))
+  gained-start x read = omega (arith, sum-start (λ v. givesAt s (labelAt s v) p))
 
   pub gained-more : (v t given sum : ℕ) → t ≡ labelAt s v → given ≡ givesAt s t p → sum ≡ gainedBy s p v → sum + given ≡ gainedBy s p (v + 1)
   unfolding gainedBy
@@ -48,9 +48,9 @@ module _ (s : List ℕ) (p : ℕ) where
   lost-more v t taken sum label takes so-far =
       omega (arith, sum-more v (λ w. takesAt s (labelAt s w) p), takes ∙ ap (λ (x : ℕ). takesAt s x p) label, so-far)
 
-  -- once all events are passed
-  pub gained-all : (v sum : ℕ) → v ≡ eventsOf s → sum ≡ gainedBy s p v → sum ≡ gainedAt s p
-  gained-all v sum all so-far = rw all at so-far
+  -- once all n events are passed
+  pub gained-all : (v n sum : ℕ) → n ≡ eventsOf s → v ≤ n → n ≤ v → sum ≡ gainedBy s p v → sum ≡ gainedAt s p
+  gained-all v n sum all l k so-far = let same : v ≡ eventsOf s = omega arith in rw same at so-far
 
-  pub lost-all : (v sum : ℕ) → v ≡ eventsOf s → sum ≡ lostBy s p v → sum ≡ lostAt s p
-  lost-all v sum all so-far = rw all at so-far
+  pub lost-all : (v n sum : ℕ) → n ≡ eventsOf s → v ≤ n → n ≤ v → sum ≡ lostBy s p v → sum ≡ lostAt s p
+  lost-all v n sum all l k so-far = let same : v ≡ eventsOf s = omega arith in rw same at so-far

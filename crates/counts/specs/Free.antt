@@ -9,6 +9,7 @@ use lib.Dec.{T, eqb, eqb→eq, ltb, ltb→lt, nltb→le}
 use mir.Facts.{and-yes, yes-and, or-yes, yes-eqb}
 use Rattle.finite.specs.Bounded.{any, any-yes, decide, same, yes-or-left, yes-or-right}
 use Rattle.finite.specs.Sum.{on, sum, sum-ext, sum-add, sum-one, on-sum}
+use Rattle.ids.specs.Limits.{mostEvents, square}
 use Rattle.plan.specs.Net.{Plan}
 use Rattle.plan.specs.Order.{Before, pair, chain, Sound, paired, freeCount}
 
@@ -121,6 +122,6 @@ module _ (P : Plan) where
     unfolding freeBy freeCount paired matches any
     free-pairs = omega (arith, freed (P .pairs) (le-refl (P .pairs)), all-pairs (P .events))
 
--- at most 256 events
-pub few : (n : ℕ) → n ≤ 256 → n * n ≤ 65536
-few n l = mul-le-mul {n₁ = n} {n₂ = 256} l l
+-- there are few events
+pub few : (n : ℕ) → n ≤ mostEvents → n * n ≤ square
+few n l = mul-le-mul {n₁ = n} {n₂ = mostEvents} l l

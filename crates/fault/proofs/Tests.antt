@@ -1,12 +1,13 @@
 -- What each comparison says of one item: it shows the fault, or the items so far and this one don't.
 use Prim.Native.Nat.{ℕ, _+_, _<_, _≤_}
 use native.Mathlib.Omega.{arith}
-use mathlib.Core.Bool.{true, false, or-true}
+use mathlib.Core.Bool.{Bool, true, false, or-true}
 use mathlib.Core.List.{List}
 use mathlib.Core.Path.{_≡_, sym, _∙_}
 use borrow.Author.Tests.{lt-ltb, le-ltb, le-leb, lt-leb, eq-eqb, ne-eqb}
 use Rattle.finite.specs.Bounded.{any}
 use Rattle.finite.specs.Search.{search-more, search-found}
+use Rattle.sheet.specs.Chain.{told}
 use Rattle.sheet.specs.Table.{transitionsOf, eventsOf}
 use Rattle.sheet.specs.Items.{openingAt, takesAt, givesAt, labelAt, earlierAt, laterAt}
 use Rattle.sheet.specs.Faults.{overOpeningAt, overOpening, overWeightAt, overWeightIn, overWeight, noTransitionAt, noTransition, noEventAt, noEvent, selfPairAt, selfPair}
@@ -41,9 +42,12 @@ module _ (s : List ℕ) (l : Layout) (is : LayoutOf s l) where
   weights-more t p x y none x-read h y-read k =
       search-more (overWeightAt s t) p none (simp (le-ltb 1000 (takesAt s t p) (omega arith), le-ltb 1000 (givesAt s t p) (omega arith)))
 
-  pub weight-found : (t : ℕ) → t < l .transitions → overWeightIn s t ≡ true → true ≡ overWeight s
+  pub weight-found : (t : ℕ) (x : Bool) → t < l .transitions → x ≡ overWeightIn s t → x ≡ true → true ≡ overWeight s
   unfolding overWeight
-  weight-found t h over = search-found _ _ (overWeightIn s) t (is .transitions) h over
+  weight-found t x h read over = search-found _ _ (overWeightIn s) t (is .transitions) h (told read over)
+
+  pub weight-more : (t : ℕ) (x : Bool) → any t (overWeightIn s) ≡ false → x ≡ overWeightIn s t → x ≡ false → any (t + 1) (overWeightIn s) ≡ false
+  weight-more t x none read right = search-more (overWeightIn s) t none (told read right)
 
   -- 7
   pub label-found : (v x : ℕ) → v < l .events → x ≡ labelAt s v → l .transitions ≤ x → true ≡ noTransition s

@@ -11,7 +11,7 @@ use lib.ListN.{getD, replicate}
 use mir.Facts.{and-yes, yes-and}
 use Rattle.ids.specs.Limits.{mostEvents}
 use Rattle.finite.specs.Bounded.{all, all-yes, yes-all, same}
-use Rattle.finite.specs.Search.{all-start, all-more, all-broken}
+use Rattle.finite.specs.Search.{all-start, all-more, all-broken, all-done}
 use Rattle.marks.specs.Marks.{meeting}
 use Rattle.plan.specs.Net.{Net, Plan, takenBy, givenBy}
 use Rattle.plan.specs.Order.{skeleton}
@@ -47,21 +47,24 @@ added-done {s} {row} {i} {into} {out} g e = (
   subst (λ (m : ℕ). PairSums (planOf s) (flowOf row) m into out) e (g .sums),
 )
 
--- pair i of a faultless sheet
-module _ {s : List ℕ} (known : Faultless s) {i a b : ℕ} (l : i < pairsOf s) (at-a : a ≡ earlierAt s i) (at-b : b ≡ laterAt s i) where
+-- pair i of a faultless sheet with n pairs
+module _ {s : List ℕ} (known : Faultless s) (i n : ℕ) {a b : ℕ} (count : n ≡ pairsOf s) (l : i < n) (at-a : a ≡ earlierAt s i) (at-b : b ≡ laterAt s i) where
+  one : i < pairsOf s
+  one = omega arith
+
   pub within : (a < mostEvents) × (b < mostEvents)
-  within = (omega (arith, known .earlier i l, known .laid .limited .events), omega (arith, known .later i l, known .laid .limited .events))
+  within = (omega (arith, known .earlier i one, known .laid .limited .events), omega (arith, known .later i one, known .laid .limited .events))
 
   module _ {succ pred : List ℕ} (rows : OrderRows (planOf s) succ pred) (row : List ℕ) {r : Bool} (told : r ≡ (not (meeting succ a pred b) || eqb (flowOf row i) 0)) where
     at-pair : r ≡ rule4At (planOf s) (flowOf row) i
     at-pair =
         told
         ∙ ap₂ (λ (y z : ℕ). not (meeting succ y pred z) || eqb (flowOf row i) 0) at-a at-b
-        ∙ ap (λ (y : Bool). y || eqb (flowOf row i) 0) (skeleton-marked s known succ pred rows i l)
+        ∙ ap (λ (y : Bool). y || eqb (flowOf row i) 0) (skeleton-marked s known succ pred rows i one)
 
     pub pair-broken : not r ≡ true → false ≡ rule4 (planOf s) (flowOf row)
     unfolding rule4
-    pair-broken away = all-broken _ _ (rule4At (planOf s) (flowOf row)) i refl l (sym at-pair ∙ not-true _ away)
+    pair-broken away = all-broken n _ (rule4At (planOf s) (flowOf row)) i count l (sym at-pair ∙ not-true _ away)
 
     pub pair-more : {into out into′ out′ : List ℕ} → not r ≡ false → Added s row i into out → SumRaised out out′ a (flowOf row i)
         → SumRaised into into′ b (flowOf row i) → Added s row (i + 1) into′ out′
@@ -102,17 +105,17 @@ module _ (s : List ℕ) (p : ℕ) (row : List ℕ) where
   pub kept-start : (v : ℕ) → v ≡ 0 → all v (keptAt (netOf s) (planOf s) p (flowOf row)) ≡ true
   kept-start v first = rw first (all-start _)
 
-  pub kept-broken : (v : ℕ) (r : Bool) → v < eventsOf s → r ≡ keptAt (netOf s) (planOf s) p (flowOf row) v → not r ≡ true
+  pub kept-broken : (v n : ℕ) (r : Bool) → n ≡ eventsOf s → v < n → r ≡ keptAt (netOf s) (planOf s) p (flowOf row) v → not r ≡ true
       → false ≡ balanced (netOf s) (planOf s) p (flowOf row)
-  kept-broken v r l is away = all-broken _ _ _ v refl l (sym is ∙ not-true _ away) ∙ kept-rules _ _ _ _
+  kept-broken v n r e l is away = all-broken _ _ _ v e l (sym is ∙ not-true _ away) ∙ kept-rules _ _ _ _
 
   pub kept-more : (v : ℕ) (r : Bool) → r ≡ keptAt (netOf s) (planOf s) p (flowOf row) v → not r ≡ false
       → all v (keptAt (netOf s) (planOf s) p (flowOf row)) ≡ true → all (v + 1) (keptAt (netOf s) (planOf s) p (flowOf row)) ≡ true
   kept-more v r is holds so-far = all-more _ v so-far (sym is ∙ not-false _ holds)
 
-  pub kept-done : (v : ℕ) → v ≡ eventsOf s → all v (keptAt (netOf s) (planOf s) p (flowOf row)) ≡ true
+  pub kept-done : (v n : ℕ) → n ≡ eventsOf s → v ≤ n → n ≤ v → all v (keptAt (netOf s) (planOf s) p (flowOf row)) ≡ true
       → true ≡ balanced (netOf s) (planOf s) p (flowOf row)
-  kept-done v e so-far = sym (rw e at so-far) ∙ kept-rules _ _ _ _
+  kept-done v n e l k so-far = all-done n _ _ v e l k so-far ∙ kept-rules _ _ _ _
 
 -- The answers one after another: that a rule is broken is told by `not r`.
 module _ (s : List ℕ) (p : ℕ) (row : List ℕ) {r4 : Bool} (is4 : r4 ≡ rule4 (planOf s) (flowOf row)) where

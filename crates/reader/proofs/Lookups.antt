@@ -174,7 +174,8 @@ module _ {M : Type 1} (𝓤 : URA M) (H : Heap 𝓤) (A : Atoms 𝓤) (W : Given
           (λ r. r ≡ found (now (d .sheet)) (p .0)) (λ r e. id⊢ 𝓤 _) (fmOf 𝓤 H (W .laws) 𝓣) met refl
           (owns-make 𝓤 H A Others (Ises Others) (LL.makes N.the-type N′.the-plain 𝓤 H A, (LL.makes P.the-type P′.the-plain 𝓤 H A, tt)) (d .layout, (p, tt)) _ (is-l, (is-p, tt)))
           (asked _ _ _ (known .0) (known .1) (known .2))
-          (and-then ! (load ! (from ! (stop !)) (look ! 3 refl)) (and-then ! (load ! (from ! (stop !)) (look ! 1 refl)) (and-then ! (load ! (from ! (stop !)) (look ! 5 refl)) (no-more !)))) (λ u r h is.
+          (and-then ! (load ! (from ! (stop !)) (look ! 3 refl)) (and-then ! (load ! (from ! (stop !)) (look ! 1 refl))
+          (and-then ! (load ! (from ! (stop !)) (look ! 5 refl)) (no-more !)))) (λ u r h is.
           -- [the result; the token; the locals, the last first]
           land ! (from ! (stop !)) (init ! 10 refl (uint-lawful 𝓤 H A W w32 .typed r _ is .0)) $
           returns ! (look ! 10 refl) $ forget ! 2 refl $ forget ! 4 refl $ forget ! 6 refl $ forget ! 8 refl $ forget ! 10 refl $

@@ -14,32 +14,9 @@ Inv-loop s l p sum₀ v₀ v-end sum v = (v ≤ l .events) × (sum ≡ lostBy s 
 abbrev μ-loop : tie.MeasureT-loop
 μ-loop s l p sum₀ v₀ v-end sum v = l .events - v
 
-loop-holds : tie.Need-loop-holds Inv-loop μ-loop
-loop-holds c = (search needs, lost-start _ _, search needs)
-
-takes-requires : tie.Need-takes-requires Inv-loop μ-loop
-takes-requires c κs =
-    let start : tie.Start Inv-loop μ-loop = search in
-    let read : tie.After-label Inv-loop μ-loop = search in
-    let below = named _ _ (start .pre .0) (start .pre .1 .0) _ _ (omega arith) (read .label .ensures) in
-    ((start .pre .0 .laid, start .pre .1 .0), (below, start .pre .1 .1))
-
 -- at most 1,000 at each event
 weight : (c : tie.After-takes Inv-loop μ-loop) → c .takes .result ≤ 1000
-weight c =
-    let start : tie.Start Inv-loop μ-loop = search in
-    let at-loop : tie.At-loop Inv-loop μ-loop = search in
-    let read : tie.After-label Inv-loop μ-loop = search in
-    takes-most _ _ (start .pre .0) (start .pre .1 .0) (at-loop .loop .v) _ (omega arith) (read .label .ensures) _ _ (start .pre .1 .1) (c .takes .ensures)
-
-loop-again : tie.Need-loop-again Inv-loop μ-loop
-loop-again c =
-    let at-loop : tie.At-loop Inv-loop μ-loop = search in
-    let read : tie.After-label Inv-loop μ-loop = search in
-    (search needs, lost-more _ _ _ _ _ _ (read .label .ensures) (c .takes .ensures) (at-loop .loop .inv .1), omega (arith, weight c))
-
-returns : tie.Need-returns Inv-loop μ-loop
-returns c = lost-all _ _ _ _ (omega arith) (c .before .loop .inv .1)
+weight c = search (needs, takes-most)
 
 pub lost-spec : {M : Type 1} → statement M
 lost-spec =
@@ -47,11 +24,11 @@ lost-spec =
     (tie.spec
     Inv-loop
     μ-loop
-    loop-holds
+    (λ c. (search needs, lost-start _ _, search needs))
     (λ c κs. search needs)
-    takes-requires
+    (λ c κs. search (needs, named))
     (λ c. omega (arith, weight c))
     (λ c. search needs)
     (λ c. search needs)
-    loop-again
-    returns)
+    (λ c. (search needs, search (needs, lost-more), omega (arith, weight c)))
+    (λ c. search (needs, lost-all)))

@@ -22,17 +22,11 @@ loop-holds c = (search needs, added-start _ _ _ _ _ (omega arith) (search needs)
 ends : (c : tie.After-later Inv-loop μ-loop) → (c .before .earlier .result .0 < mostEvents) × (c .later .result .0 < mostEvents)
 ends c =
     let start : tie.Start Inv-loop μ-loop = search in
-    within (start .pre .0 .0) (omega arith) (c .before .earlier .ensures) (c .later .ensures)
+    let known = start .pre .0 in
+    within (known .0) _ _ (known .1 .pairs) (c .before .before .loop-test .taken) (c .before .earlier .ensures) (c .later .ensures)
 
 returns : tie.Need-returns Inv-loop μ-loop
-returns c =
-    let start : tie.Start Inv-loop μ-loop = search in
-    let pair : tie.After-later Inv-loop μ-loop = search in
-    let a = pair .before .earlier .ensures in
-    let b = pair .later .ensures in (
-      pair-broken (start .pre .0 .0) (omega arith) a b (start .pre .1 .0) (start .args .row .now) (c .before .may-carry .ensures) (c .if1 .taken),
-      λ e. absurd (true≢false (sym e)),
-    )
+returns c = (search (needs, pair-broken), λ e. absurd (true≢false (sym e)))
 
 raise-requires : tie.Need-raise-requires Inv-loop μ-loop
 raise-requires c κs =
@@ -40,7 +34,7 @@ raise-requires c κs =
     let at-loop : tie.At-loop Inv-loop μ-loop = search in
     let pair : tie.After-later Inv-loop μ-loop = search in
     let most = at-loop .loop .inv .1 .sums .leave .most in
-    omega (arith, ends pair, most (pair .before .earlier .result .0), start .pre .0 .0 .laid .limited .pairs)
+    omega (arith, ends pair, most (pair .before .earlier .result .0), most (pair .later .result .0), start .pre .0 .0 .laid .limited .pairs)
 
 raise-requires-2 : tie.Need-raise-requires-2 Inv-loop μ-loop
 raise-requires-2 c κs =
@@ -48,23 +42,20 @@ raise-requires-2 c κs =
     let at-loop : tie.At-loop Inv-loop μ-loop = search in
     let pair : tie.After-later Inv-loop μ-loop = search in
     let most = at-loop .loop .inv .1 .sums .arrive .most in
-    omega (arith, ends pair, most (pair .later .result .0), start .pre .0 .0 .laid .limited .pairs)
+    omega (arith, ends pair, most (pair .before .earlier .result .0), most (pair .later .result .0), start .pre .0 .0 .laid .limited .pairs)
 
 loop-again : tie.Need-loop-again Inv-loop μ-loop
 loop-again c =
     let start : tie.Start Inv-loop μ-loop = search in
     let at-loop : tie.At-loop Inv-loop μ-loop = search in
     let pair : tie.After-later Inv-loop μ-loop = search in
-    let asked : tie.After-may-carry Inv-loop μ-loop = search in
     let passed : tie.Else1 Inv-loop μ-loop = search in
     let left : tie.After-raise Inv-loop μ-loop = search in
+    let known = start .pre .0 in
     let a = pair .before .earlier .ensures in
     let b = pair .later .ensures in
-    let told = asked .may-carry .ensures in
-    let so-far = at-loop .loop .inv .1 in (
-      search needs,
-      pair-more (start .pre .0 .0) (omega arith) a b (start .pre .1 .0) (start .args .row .now) told (passed .if1 .left) so-far (left .raise .ensures) (c .raise2 .ensures),
-    )
+    let told = pair-more (known .0) _ _ (known .1 .pairs) (pair .before .before .loop-test .taken) a b (start .pre .1 .0) (start .args .row .now) (passed .before .may-carry .ensures) in
+    (search needs, told (passed .if1 .left) (at-loop .loop .inv .1) (left .raise .ensures) (c .raise2 .ensures))
 
 returns-2 : tie.Need-returns-2 Inv-loop μ-loop
 returns-2 c = let done = added-done (c .before .loop .inv .1) (omega arith) in (done .0, λ e. done .1)

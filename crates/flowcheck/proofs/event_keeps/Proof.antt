@@ -30,30 +30,7 @@ keeps-requires c κs =
     omega (arith, sums .arrive .most v, sums .leave .most v, start .pre .0 .0 .laid .limited .pairs)
 
 returns : tie.Need-returns
-returns c =
-    let start : tie.Start = search in
-    let named : tie.After-label = search in
-    let shared : tie.After-wide = search in
-    let taken : tie.After-takes = search in
-    let given : tie.After-gives = search in
-    kept-told
-    _
-    _
-    (start .args .row .now)
-    (start .pre .1 .1)
-    _
-    _
-    _
-    _
-    _
-    _
-    _
-    (start .pre .0 .1 .pairs)
-    (named .label .ensures)
-    (taken .takes .ensures)
-    (given .gives .ensures)
-    (shared .wide .ensures .0)
-    (c .keeps .ensures)
+returns c = search (needs, kept-told)
 
 pub event-keeps-spec : {M : Type 1} → statement M
 event-keeps-spec =

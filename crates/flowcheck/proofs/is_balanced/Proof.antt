@@ -1,6 +1,5 @@
 -- The invariant: the events below v keep rules 1 and 2.
 use Prim.Native.Nat.{_≤_, _-_}
-use native.Mathlib.Omega.{arith}
 use mathlib.Core.Bool.{true}
 use mathlib.Core.Path.{_≡_}
 use borrow.Author.Needs.{needs}
@@ -19,25 +18,16 @@ abbrev μ-loop : tie.MeasureT-loop
 μ-loop s l p row into out v₀ v-end v = l .events - v
 
 loop-holds : tie.Need-loop-holds Inv-loop μ-loop
-loop-holds c =
-    let start : tie.Start Inv-loop μ-loop = search in
-    (search needs, kept-start _ _ (start .args .row .now) _ (omega arith))
+loop-holds c = search (needs, kept-start)
 
 returns : tie.Need-returns Inv-loop μ-loop
-returns c =
-    let start : tie.Start Inv-loop μ-loop = search in
-    kept-broken _ _ (start .args .row .now) _ _ (omega arith) (c .before .event-keeps .ensures) (c .if1 .taken)
+returns c = search (needs, kept-broken)
 
 loop-again : tie.Need-loop-again Inv-loop μ-loop
-loop-again c =
-    let start : tie.Start Inv-loop μ-loop = search in
-    let at-loop : tie.At-loop Inv-loop μ-loop = search in
-    (search needs, kept-more _ _ (start .args .row .now) _ _ (c .before .event-keeps .ensures) (c .if1 .left) (at-loop .loop .inv .1))
+loop-again c = search (needs, kept-more)
 
 returns-2 : tie.Need-returns-2 Inv-loop μ-loop
-returns-2 c =
-    let start : tie.Start Inv-loop μ-loop = search in
-    kept-done _ _ (start .args .row .now) _ (omega arith) (c .before .loop .inv .1)
+returns-2 c = search (needs, kept-done)
 
 pub is-balanced-spec : {M : Type 1} → statement M
 is-balanced-spec =

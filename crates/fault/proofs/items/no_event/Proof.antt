@@ -17,18 +17,6 @@ Inv-loop s l i₀ i-end i = (i ≤ l .pairs) × (any i (noEventAt s) ≡ false)
 abbrev μ-loop : tie.MeasureT-loop
 μ-loop s l i₀ i-end i = l .pairs - i
 
-returns : tie.Need-returns Inv-loop μ-loop
-returns c =
-    let start : tie.Start Inv-loop μ-loop = search in
-    let one : tie.After-earlier Inv-loop μ-loop = search in
-    earlier-found _ _ (start .pre .1) _ _ (omega arith) (one .earlier .ensures) (omega arith)
-
-returns-2 : tie.Need-returns-2 Inv-loop μ-loop
-returns-2 c =
-    let start : tie.Start Inv-loop μ-loop = search in
-    let two : tie.After-later Inv-loop μ-loop = search in
-    later-found _ _ (start .pre .1) _ _ (omega arith) (two .later .ensures) (omega arith)
-
 loop-again : tie.Need-loop-again Inv-loop μ-loop
 loop-again c =
     let start : tie.Start Inv-loop μ-loop = search in
@@ -37,13 +25,8 @@ loop-again c =
     let two : tie.After-later Inv-loop μ-loop = search in
     (search needs, ends-more _ _ (start .pre .1) _ _ _ (at-loop .loop .inv .1) (one .earlier .ensures) (omega arith) (two .later .ensures) (omega arith))
 
-returns-3 : tie.Need-returns-3 Inv-loop μ-loop
-unfolding noEvent
-returns-3 c =
-    let start : tie.Start Inv-loop μ-loop = search in
-    search-done _ _ _ _ (start .pre .1 .pairs) (omega arith) (omega arith) (c .before .loop .inv .1)
-
 pub no-event-spec : {M : Type 1} → statement M
+unfolding noEvent
 no-event-spec =
     tie.close
     (tie.spec
@@ -51,10 +34,10 @@ no-event-spec =
     μ-loop
     (λ c. (search needs, search-start _))
     (λ c κs. search needs)
-    returns
+    (λ c. search (needs, earlier-found))
     (λ c κs. search needs)
-    returns-2
+    (λ c. search (needs, later-found))
     (λ c. search needs)
     (λ c. search needs)
     loop-again
-    returns-3)
+    (λ c. search (needs, search-done)))

@@ -17,12 +17,6 @@ Inv-loop s l v₀ v-end v = (v ≤ l .events) × (any v (noTransitionAt s) ≡ f
 abbrev μ-loop : tie.MeasureT-loop
 μ-loop s l v₀ v-end v = l .events - v
 
-returns : tie.Need-returns Inv-loop μ-loop
-returns c =
-    let start : tie.Start Inv-loop μ-loop = search in
-    let read : tie.After-label Inv-loop μ-loop = search in
-    label-found _ _ (start .pre .1) _ _ (omega arith) (read .label .ensures) (omega arith)
-
 loop-again : tie.Need-loop-again Inv-loop μ-loop
 loop-again c =
     let start : tie.Start Inv-loop μ-loop = search in
@@ -30,13 +24,8 @@ loop-again c =
     let read : tie.After-label Inv-loop μ-loop = search in
     (search needs, label-more _ _ (start .pre .1) _ _ (at-loop .loop .inv .1) (read .label .ensures) (omega arith))
 
-returns-2 : tie.Need-returns-2 Inv-loop μ-loop
-unfolding noTransition
-returns-2 c =
-    let start : tie.Start Inv-loop μ-loop = search in
-    search-done _ _ _ _ (start .pre .1 .events) (omega arith) (omega arith) (c .before .loop .inv .1)
-
 pub no-transition-spec : {M : Type 1} → statement M
+unfolding noTransition
 no-transition-spec =
     tie.close
     (tie.spec
@@ -44,8 +33,8 @@ no-transition-spec =
     μ-loop
     (λ c. (search needs, search-start _))
     (λ c κs. search needs)
-    returns
+    (λ c. search (needs, label-found))
     (λ c. search needs)
     (λ c. search needs)
     loop-again
-    returns-2)
+    (λ c. search (needs, search-done)))

@@ -1,6 +1,5 @@
 -- The invariant: no place so far opens above the limit.
 use Prim.Native.Nat.{_≤_, _-_}
-use native.Mathlib.Omega.{arith}
 use mathlib.Core.Bool.{false}
 use mathlib.Core.Path.{_≡_}
 use borrow.Author.Needs.{needs}
@@ -17,26 +16,8 @@ Inv-loop s l p₀ p-end p = (p ≤ l .places) × (any p (overOpeningAt s) ≡ fa
 abbrev μ-loop : tie.MeasureT-loop
 μ-loop s l p₀ p-end p = l .places - p
 
-returns : tie.Need-returns Inv-loop μ-loop
-returns c =
-    let start : tie.Start Inv-loop μ-loop = search in
-    let read : tie.After-opening Inv-loop μ-loop = search in
-    opening-found _ _ (start .pre .1) _ _ (omega arith) (read .opening .ensures) (omega arith)
-
-loop-again : tie.Need-loop-again Inv-loop μ-loop
-loop-again c =
-    let start : tie.Start Inv-loop μ-loop = search in
-    let at-loop : tie.At-loop Inv-loop μ-loop = search in
-    let read : tie.After-opening Inv-loop μ-loop = search in
-    (search needs, opening-more _ _ (start .pre .1) _ _ (at-loop .loop .inv .1) (read .opening .ensures) (omega arith))
-
-returns-2 : tie.Need-returns-2 Inv-loop μ-loop
-unfolding overOpening
-returns-2 c =
-    let start : tie.Start Inv-loop μ-loop = search in
-    search-done _ _ _ _ (start .pre .1 .places) (omega arith) (omega arith) (c .before .loop .inv .1)
-
 pub over-opening-spec : {M : Type 1} → statement M
+unfolding overOpening
 over-opening-spec =
     tie.close
     (tie.spec
@@ -44,8 +25,8 @@ over-opening-spec =
     μ-loop
     (λ c. (search needs, search-start _))
     (λ c κs. search needs)
-    returns
+    (λ c. search (needs, opening-found))
     (λ c. search needs)
     (λ c. search needs)
-    loop-again
-    returns-2)
+    (λ c. (search needs, search (needs, opening-more)))
+    (λ c. search (needs, search-done)))

@@ -17,18 +17,6 @@ Inv-loop s l t p₀ p-end p = (p ≤ l .places) × (any p (overWeightAt s (t .0)
 abbrev μ-loop : tie.MeasureT-loop
 μ-loop s l t p₀ p-end p = l .places - p
 
-returns : tie.Need-returns Inv-loop μ-loop
-returns c =
-    let start : tie.Start Inv-loop μ-loop = search in
-    let taken : tie.After-takes Inv-loop μ-loop = search in
-    takes-found _ _ (start .pre .0 .1) _ _ _ (omega arith) (taken .takes .ensures) (omega arith)
-
-returns-2 : tie.Need-returns-2 Inv-loop μ-loop
-returns-2 c =
-    let start : tie.Start Inv-loop μ-loop = search in
-    let given : tie.After-gives Inv-loop μ-loop = search in
-    gives-found _ _ (start .pre .0 .1) _ _ _ (omega arith) (given .gives .ensures) (omega arith)
-
 loop-again : tie.Need-loop-again Inv-loop μ-loop
 loop-again c =
     let start : tie.Start Inv-loop μ-loop = search in
@@ -37,13 +25,8 @@ loop-again c =
     let given : tie.After-gives Inv-loop μ-loop = search in
     (search needs, weights-more _ _ (start .pre .0 .1) _ _ _ _ (at-loop .loop .inv .1) (taken .takes .ensures) (omega arith) (given .gives .ensures) (omega arith))
 
-returns-3 : tie.Need-returns-3 Inv-loop μ-loop
-unfolding overWeightIn
-returns-3 c =
-    let start : tie.Start Inv-loop μ-loop = search in
-    search-done _ _ _ _ (start .pre .0 .1 .places) (omega arith) (omega arith) (c .before .loop .inv .1)
-
 pub over-weight-in-spec : {M : Type 1} → statement M
+unfolding overWeightIn
 over-weight-in-spec =
     tie.close
     (tie.spec
@@ -51,10 +34,10 @@ over-weight-in-spec =
     μ-loop
     (λ c. (search needs, search-start _))
     (λ c κs. search needs)
-    returns
+    (λ c. search (needs, takes-found))
     (λ c κs. search needs)
-    returns-2
+    (λ c. search (needs, gives-found))
     (λ c. search needs)
     (λ c. search needs)
     loop-again
-    returns-3)
+    (λ c. search (needs, search-done)))
