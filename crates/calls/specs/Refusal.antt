@@ -32,6 +32,10 @@ pub record FaultTold (s : List ℕ) (fault : ℕ) (e : Examined) : Type 0 where
   pub number : e .fault ≡ fault
   pub laid : fault ≡ 0 → LayoutOf s (e .layout)
 
+-- what an examination of the sheet alone tells
+pub sheet-told : {X : Type 0} (s : List ℕ) (e : Examined) → e .fault ≡ faultOf s → (e .fault ≡ 0 → LayoutOf s (e .layout) × X) → FaultTold s (faultOf s) e
+sheet-told s e is laid = record { number = is; laid = λ none. laid (is ∙ none) .0 }
+
 -- a lower fault decides, and where there is none two tests that say the same tell the same
 next-agrees : (lower : ℕ) (a b : Bool) (k : ℕ) → (lower ≡ 0 → a ≡ b) → nextFault lower a k ≡ nextFault lower b k
 unfolding nextFault

@@ -1,15 +1,18 @@
 -- The answer of the plan judgement and the row that it leaves, at each place where it returns.
-use Prim.Native.Nat.{ℕ, zero, suc, _<_, _≤_}
+use Prim.Native.Nat.{ℕ, zero, suc, _≤_}
 use native.Mathlib.Omega.{arith}
 use mathlib.Core.List.{List}
 use mathlib.Core.Path.{_≡_, refl, sym, ap, _∙_}
-use borrow.Author.Tests.{eqb-false}
+use lib.Dec.{ltb}
 use lib.ListN.{length}
 use Rattle.finite.specs.Filled.{Filled}
 use Rattle.sheet.specs.Table.{placesOf}
 use Rattle.sheet.specs.Faults.{faultOf}
-use Rattle.sheet.specs.Faultless.{faultless}
-use Rattle.calls.specs.Call.{lower-first, short-row, long-row}
+use Rattle.sheet.specs.Faultless.{Faultless, faultless}
+use Rattle.layout.specs.Layout.{LayoutOf}
+use Rattle.fault.specs.declared.Examined.{Examined}
+use Rattle.calls.specs.Call.{row-known}
+use Rattle.calls.specs.Refusal.{FaultTold, Next, row-link}
 use Rattle.calls.specs.Overwritten.{overwritten, filled-is, at-fault, at-none}
 use Rattle.place.specs.Place.{missingAt}
 use Rattle.summary.specs.Summary.{countAt, MissingCounts}
@@ -19,39 +22,58 @@ use Rattle.plan_judgement.specs.declared.Answer.the-variants.{Fault, Jud
 use Rattle.plan_judgement.specs.Judgement.{planFault, totalsIn, totalsOf, answer, answerOf, rowOf}
 use Rattle.plan_judgement.proofs.Bounds.{most-missing}
 
-module _ (s row : List ℕ) where
-  refused : (k : ℕ) → ¬ (k ≡ 0) → planFault s row ≡ k → (Fault k ≡ answerOf s row) × (row ≡ rowOf s row)
+-- the fault of the call, by its two links
+pub fault-told : (s row : List ℕ) (seen e : Examined) → FaultTold s (faultOf s) seen → Next seen (ltb (length row) (seen .layout .places)) 13 e
+    → FaultTold s (planFault s row) e
+unfolding planFault
+fault-told s row seen e told next = row-link s (faultOf s) seen told row _ _ _ e refl (λ l. l .places) next
+
+module _ (s row : List ℕ) (e : Examined) (told : FaultTold s (planFault s row) e) where
+  refused-by : (k : ℕ) → ¬ (k ≡ 0) → planFault s row ≡ k → (Fault k ≡ answerOf s row) × (row ≡ rowOf s row)
   unfolding answerOf answer rowOf
-  refused zero some e = absurd (some refl)
-  refused (suc k) some e =
-      (simp e, at-fault (planFault s row) (overwritten (missingAt s) (placesOf s) row) row (λ z. some (sym e ∙ z)))
+  refused-by zero some is = absurd (some refl)
+  refused-by (suc k) some is =
+      (simp is, at-fault (planFault s row) (overwritten (missingAt s) (placesOf s) row) row (λ z. some (sym is ∙ z)))
 
-  pub sheet-refused : (k : ℕ) → k ≡ faultOf s → ¬ (k ≡ 0) → (Fault k ≡ answerOf s row) × (row ≡ rowOf s row)
-  unfolding planFault
-  sheet-refused k e some = refused k some (lower-first (faultOf s) row (placesOf s) (λ z. some (e ∙ z)) ∙ sym e)
+  pub refused : ¬ (e .fault ≡ 0) → (Fault (e .fault) ≡ answerOf s row) × (row ≡ rowOf s row)
+  refused some = refused-by (e .fault) some (sym (told .number))
 
-  module _ (none : faultOf s ≡ 0) where
-    pub row-refused : length row < placesOf s → (Fault 13 ≡ answerOf s row) × (row ≡ rowOf s row)
+  module _ (none : e .fault ≡ 0) where
+    clear : planFault s row ≡ 0
+    clear = sym (told .number) ∙ none
+
+    pub taken : faultOf s ≡ 0
     unfolding planFault
-    row-refused l = refused 13 (eqb-false 13 0 refl) (short-row (faultOf s) row (placesOf s) none l)
+    taken = row-known (faultOf s) row (placesOf s) clear .0
+
+    pub known : Faultless s
+    known = faultless s taken
+
+    pub laid : LayoutOf s (e .layout)
+    laid = told .laid clear
+
+    pub long : e .layout .places ≤ length row
+    unfolding planFault
+    long = omega (arith, laid .places, row-known (faultOf s) row (placesOf s) clear .1)
 
     -- the counts stand in the row
-    module _ (places : ℕ) (is : places ≡ placesOf s) (long : places ≤ length row) (new : List ℕ) (counted : Filled (missingAt s) places row new) where
+    module _ (new : List ℕ) (counted : Filled (missingAt s) (e .layout .places) row new) where
+      abbrev places : ℕ
+      places = e .layout .places
+
+      is : places ≡ placesOf s
+      is = laid .places
+
       -- they are small enough to be added up
       pub counts : MissingCounts new places
       counts =
-          let known = faultless s none in
           record {
             few = omega (arith, is, known .laid .limited .places);
             most = λ p l. omega (arith, counted .numbers p l, most-missing s known p (omega (arith, is)));
           }
 
       pub in-row : places ≤ length new
-      in-row = omega (arith, counted .size)
-
-      clear : planFault s row ≡ 0
-      unfolding planFault
-      clear = long-row (faultOf s) row (placesOf s) none (omega (arith, is))
+      in-row = omega (arith, counted .size, long)
 
       totals-agree : totalsIn (countAt new) places ≡ totalsOf s
       unfolding totalsOf
@@ -70,7 +92,7 @@ module _ (s row : List ℕ) where
 
       pub judged : (t : Totals) → t ≡ totalsIn (countAt new) places → (Judged t ≡ answerOf s row) × (new ≡ rowOf s row)
       unfolding answerOf answer rowOf
-      judged t e = (
-        ap Judged (e ∙ totals-agree) ∙ sym (ap (λ (k : ℕ). answer k (totalsOf s)) clear),
+      judged t is-sum = (
+        ap Judged (is-sum ∙ totals-agree) ∙ sym (ap (λ (k : ℕ). answer k (totalsOf s)) clear),
         row-filled ∙ at-none (planFault s row) (overwritten (missingAt s) (placesOf s) row) row clear,
       )

@@ -34,7 +34,7 @@ raise-requires c κs =
     let at-loop : tie.At-loop Inv-loop μ-loop = search in
     let pair : tie.After-later Inv-loop μ-loop = search in
     let most = at-loop .loop .inv .1 .sums .leave .most in
-    omega (arith, ends pair, most (pair .before .earlier .result .0), start .pre .0 .0 .laid .limited .pairs)
+    omega (arith, ends pair, most (pair .before .earlier .result .0), most (pair .later .result .0), start .pre .0 .0 .laid .limited .pairs)
 
 raise-requires-2 : tie.Need-raise-requires-2 Inv-loop μ-loop
 raise-requires-2 c κs =
@@ -42,7 +42,7 @@ raise-requires-2 c κs =
     let at-loop : tie.At-loop Inv-loop μ-loop = search in
     let pair : tie.After-later Inv-loop μ-loop = search in
     let most = at-loop .loop .inv .1 .sums .arrive .most in
-    omega (arith, ends pair, most (pair .later .result .0), start .pre .0 .0 .laid .limited .pairs)
+    omega (arith, ends pair, most (pair .before .earlier .result .0), most (pair .later .result .0), start .pre .0 .0 .laid .limited .pairs)
 
 loop-again : tie.Need-loop-again Inv-loop μ-loop
 loop-again c =

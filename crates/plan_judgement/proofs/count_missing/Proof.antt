@@ -1,0 +1,23 @@
+-- `plan_judgement::count_missing` meets its contract: the working rows are long enough.
+use Prim.Native.Nat.{ℕ}
+use native.Mathlib.Omega.{arith}
+use borrow.Author.Needs.{needs}
+use lib.ListN.{length-replicate}
+use Rattle.plan_judgement.proofs.count_missing.Statement.{statement}
+use Rattle.plan_judgement.proofs.count_missing.Tie as tie
+
+count-places-requires : tie.Need-count-places-requires
+count-places-requires c κs =
+    let s : tie.Start = search in
+    let few = s .pre .0 .laid .limited .events in
+    (s .pre .0, (s .pre .1 .0, (s .pre .1 .1 .0, (omega (arith, length-replicate {A = ℕ} 65536 0), s .pre .1 .1 .1))))
+
+pub count-missing-spec : {M : Type 1} → statement M
+count-missing-spec =
+    tie.close
+    (tie.spec
+    (λ c κs. search needs)
+    (λ c. search needs)
+    count-places-requires
+    (λ c. search needs)
+    (λ c. search needs))

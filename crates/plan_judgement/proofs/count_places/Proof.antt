@@ -1,0 +1,60 @@
+-- `plan_judgement::count_places` meets its contract. The invariant: the places below p are counted, and the done set of the first short one of
+-- them is kept; the amounts are as many as before.
+use Prim.Native.Nat.{_-_, _≤_, zero-le}
+use native.Mathlib.Omega.{arith}
+use mathlib.Core.Path.{_≡_, refl, _∙_}
+use borrow.Author.Needs.{needs}
+use lib.ListN.{length}
+use Rattle.finite.specs.Filled.{Filled, filled-none, filled-more}
+use Rattle.place.specs.Place.{missingAt}
+use Rattle.plan_judgement.specs.First.{FirstTo, first-start}
+use Rattle.plan_judgement.proofs.count_places.Statement.{statement}
+use Rattle.plan_judgement.proofs.count_places.Tie as tie
+
+abbrev Inv-loop : tie.InvT-loop
+Inv-loop s l pred order amount₀ fed₀ row₀ first₀ p₀ p-end amount fed row first p =
+    (p ≤ l .places) × Filled (missingAt s) p row₀ row × FirstTo s p first × (length amount ≡ length amount₀)
+
+abbrev μ-loop : tie.MeasureT-loop
+μ-loop s l pred order amount₀ fed₀ row₀ first₀ p₀ p-end amount fed row first p = l .places - p
+
+count-place-requires : tie.Need-count-place-requires Inv-loop μ-loop
+count-place-requires c κs =
+    let at : tie.At-loop Inv-loop μ-loop = search in
+    let s : tie.Start Inv-loop μ-loop = search in
+    let size = at .loop .inv .1 .size in
+    (s .pre .0, (s .pre .1 .0, ((omega arith, omega arith), (s .pre .1 .1 .0, (omega arith, at .loop .inv .2)))))
+
+loop-again : tie.Need-loop-again Inv-loop μ-loop
+loop-again c =
+    let at : tie.At-loop Inv-loop μ-loop = search in
+    let s : tie.Start Inv-loop μ-loop = search in
+    let size = at .loop .inv .1 .size in
+    let done : tie.After-count-place Inv-loop μ-loop = search in (
+      omega arith,
+      rw (done .count-place .ensures .0) (filled-more _ _ _ _ (omega arith) (at .loop .inv .1)),
+      done .count-place .ensures .1,
+      done .count-place .kept .1 .1 .1 .1 .1 .0 ∙ at .loop .inv .3,
+    )
+
+returns : tie.Need-returns Inv-loop μ-loop
+returns c =
+    let at : tie.At-loop Inv-loop μ-loop = search in
+    let s : tie.Start Inv-loop μ-loop = search in
+    let all : at .loop .p ≡ s .args .l .places = omega arith in
+    (rw all at (at .loop .inv .1), rw all at (at .loop .inv .2))
+
+pub count-places-spec : {M : Type 1} → statement M
+count-places-spec =
+    tie.close
+    (tie.spec
+    Inv-loop
+    μ-loop
+    (λ c. (zero-le, filled-none _ _, first-start _ _ refl, refl))
+    count-place-requires
+    (λ c. search needs)
+    (λ c. search needs)
+    loop-again
+    (λ c. search needs)
+    (λ c. search needs)
+    returns)
