@@ -34,10 +34,11 @@ module _ (s : List ℕ) (p : ℕ) (row : List ℕ) where
 
   -- An examined sheet, the test of the place and that of the row.
   module _ {succ pred : List ℕ} {e r t : Examined} (is : e .fault ≡ faultOf s)
-      (laid : e .fault ≡ 0 → LayoutOf s (e .layout) × OrderRows (planOf s) succ pred) (placed : Next e (leb (e .layout .places) p) 12 r)
+      (laid : e .fault ≡ 0 → LayoutOf s (e .layout) × OrderRows (planOf s) succ pred) (q : ℕ) (asked : q ≡ p)
+      (placed : Next e (leb (e .layout .places) q) 12 r)
       (rowed : Next r (ltb (length row) (r .layout .pairs + r .layout .events)) 13 t) where
     place : FaultTold s (placeFault s p) r
-    place = place-link s e p r (record { number = is; laid = λ none. laid (is ∙ none) .0 }) placed
+    place = place-link s e p r (record { number = is; laid = λ none. laid (is ∙ none) .0 }) (rw asked at placed)
 
     all : FaultTold s (flowFault s p row) t
     unfolding flowFault
