@@ -19,13 +19,13 @@ use Rattle.layout.specs.Layout.{placesAt, transitionsAt, eventsAt, pairs
 use Rattle.layout.specs.declared.Layout.{Layout}
 
 -- the numbers of an entry, where the code reads them
-pub start-is : (s : List ℕ) (e : ℕ) → number 4 s (8 * e) ≡ start s e
+pub start-is : (s : List ℕ) (e at : ℕ) → at ≡ 8 * e → number 4 s at ≡ start s e
 unfolding start
-start-is s e = refl
+start-is s e at is = rw is
 
-pub count-is : (s : List ℕ) (e : ℕ) → number 4 s (8 * e + 4) ≡ count s e
+pub count-is : (s : List ℕ) (e at : ℕ) → at ≡ 8 * e + 4 → number 4 s at ≡ count s e
 unfolding count
-count-is s e = refl
+count-is s e at is = rw is
 
 pub short-is : (s : List ℕ) → ltb (length s) tableLength ≡ tooShort s
 unfolding tooShort
@@ -57,10 +57,11 @@ module _ (s : List ℕ) (l : Layout) (is : LayoutOf s l) where
   unfolding limit
   over-events h = over 2 (omega arith) (omega arith)
 
-  pub over-last : l .places ≤ mostPlaces → l .transitions ≤ mostTransitions → l .events ≤ mostEvents → ltb mostPairs (l .pairs) ≡ overLimit s
+  pub over-last : (most : ℕ) → most ≡ mostPairs → l .places ≤ mostPlaces → l .transitions ≤ mostTransitions → l .events ≤ mostEvents
+      → ltb most (l .pairs) ≡ overLimit s
   unfolding overLimit overLimitAt any limit
-  over-last h i j =
-      simp (is .pairs, le-ltb 64 (count s 0) (omega arith), le-ltb 64 (count s 1) (omega arith), le-ltb 256 (count s 2) (omega arith))
+  over-last most last h i j =
+      simp (last, is .pairs, le-ltb 64 (count s 0) (omega arith), le-ltb 64 (count s 1) (omega arith), le-ltb 256 (count s 2) (omega arith))
 
   -- 3: where each body is due, by the layout
   due-first : tableLength ≡ due s 0
@@ -92,11 +93,12 @@ module _ (s : List ℕ) (l : Layout) (is : LayoutOf s l) where
   pub wrong-events : ¬ (eventsAt l ≡ transitionsAt l + 4 * l .places * l .transitions) → true ≡ misplaced s
   wrong-events h = wrong 2 (omega arith) (λ e. h (is .events-at ∙ e ∙ sym due-events))
 
-  pub wrong-last : placesAt l ≡ tableLength → transitionsAt l ≡ placesAt l + 4 * l .places
-      → eventsAt l ≡ transitionsAt l + 4 * l .places * l .transitions → not (eqb (pairsAt l) (eventsAt l + 2 * l .events)) ≡ misplaced s
+  pub wrong-last : (at : ℕ) → at ≡ eventsAt l + 2 * l .events → placesAt l ≡ tableLength → transitionsAt l ≡ placesAt l + 4 * l .places
+      → eventsAt l ≡ transitionsAt l + 4 * l .places * l .transitions → not (eqb (pairsAt l) at) ≡ misplaced s
   unfolding misplaced misplacedAt any
-  wrong-last a b c =
+  wrong-last at last a b c =
       simp (
+        last,
         is .pairs-at,
         due-pairs,
         eq-eqb (start s 0) (due s 0) (sym (is .places-at) ∙ a ∙ due-first),

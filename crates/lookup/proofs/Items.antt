@@ -17,21 +17,21 @@ pub weights-fit : (places t : ℕ) → places ≤ mostPlaces → t < mostTransit
 weights-fit places t l m = mul-le-mul {n₁ = 4 * places} {n₂ = 4 * mostPlaces} (omega arith) (le-of-lt m)
 
 module _ (s : List ℕ) (l : Layout) (known : LaidBy s l) where
-  pub opening-is : (p : ℕ) → number 4 s (placesAt l + 4 * p) ≡ openingAt s p
+  pub opening-is : (p at : ℕ) → at ≡ placesAt l + 4 * p → number 4 s at ≡ openingAt s p
   unfolding openingAt item itemLength
-  opening-is p = rw (known .1 .places-at)
+  opening-is p at is = rw (is, known .1 .places-at)
 
-  pub label-is : (v : ℕ) → number 2 s (eventsAt l + 2 * v) ≡ labelAt s v
+  pub label-is : (v at : ℕ) → at ≡ eventsAt l + 2 * v → number 2 s at ≡ labelAt s v
   unfolding labelAt item itemLength
-  label-is v = rw (known .1 .events-at)
+  label-is v at is = rw (is, known .1 .events-at)
 
-  pub earlier-is : (i : ℕ) → number 2 s (pairsAt l + 4 * i) ≡ earlierAt s i
+  pub earlier-is : (i at : ℕ) → at ≡ pairsAt l + 4 * i → number 2 s at ≡ earlierAt s i
   unfolding earlierAt item itemLength
-  earlier-is i = rw (known .1 .pairs-at)
+  earlier-is i at is = rw (is, known .1 .pairs-at)
 
-  pub later-is : (i : ℕ) → number 2 s (pairsAt l + 4 * i + 2) ≡ laterAt s i
+  pub later-is : (i at : ℕ) → at ≡ pairsAt l + 4 * i + 2 → number 2 s at ≡ laterAt s i
   unfolding laterAt item itemLength
-  later-is i = rw (known .1 .pairs-at)
+  later-is i at is = rw (is, known .1 .pairs-at)
 
   -- the item of a transition, by where it was found to stand
   module _ (t at : ℕ) (is : at ≡ transitionsAt l + 4 * l .places * t) where
@@ -43,10 +43,10 @@ module _ (s : List ℕ) (l : Layout) (known : LaidBy s l) where
     transition-there h =
         omega (arith, transition-within s (known .0) t (omega arith), ap (λ (n : ℕ). 4 * n * t) (known .1 .places))
 
-    pub takes-is : (p : ℕ) → number 2 s (at + 2 * p) ≡ takesAt s t p
+    pub takes-is : (p i : ℕ) → i ≡ at + 2 * p → number 2 s i ≡ takesAt s t p
     unfolding takesAt
-    takes-is p = rw found
+    takes-is p i there = rw (there, found)
 
-    pub gives-is : (p : ℕ) → number 2 s (at + 2 * (l .places + p)) ≡ givesAt s t p
+    pub gives-is : (p i : ℕ) → i ≡ at + 2 * (l .places + p) → number 2 s i ≡ givesAt s t p
     unfolding givesAt
-    gives-is p = rw (found, known .1 .places)
+    gives-is p i there = rw (there, found, known .1 .places)

@@ -27,12 +27,13 @@ pub start : (a : List ℕ) (i : ℕ) (b : List ℕ) (j both k : ℕ) → both �
 unfolding any
 start a i b j both k empty none = record { fits = omega arith; bits = λ t. rw (empty, none) (bit-none t) }
 
-pub more : (a : List ℕ) (i : ℕ) (b : List ℕ) (j both k : ℕ) → ((q : ℕ) → getD a q 0 < 2 ^ 32) → ((q : ℕ) → getD b q 0 < 2 ^ 32)
-    → Gathered a i b j both k → Gathered a i b j (bitOr both (bitAnd (getD a (i * 8 + k) 0) (getD b (j * 8 + k) 0))) (k + 1)
+pub more : (a : List ℕ) (i : ℕ) (b : List ℕ) (j both k common : ℕ) → ((q : ℕ) → getD a q 0 < 2 ^ 32) → ((q : ℕ) → getD b q 0 < 2 ^ 32)
+    → common ≡ bitAnd (getD a (i * 8 + k) 0) (getD b (j * 8 + k) 0) → Gathered a i b j both k → Gathered a i b j (bitOr both common) (k + 1)
 unfolding any inBoth
-more a i b j both k ha hb g =
+more a i b j both k common ha hb is g =
     let x = getD a (i * 8 + k) 0 in
     let y = getD b (j * 8 + k) 0 in
+    rw is
     record {
       fits = or-lt 32 both (bitAnd x y) (g .fits) (and-lt 32 x y (ha _) (hb _));
       bits = λ t. bit-or both (bitAnd x y) t ∙ ap₂ _||_ (g .bits t) (bit-and x y t) ∙ ap (λ (n : ℕ). any n (inBoth a i b j t)) (sym (add-one k));

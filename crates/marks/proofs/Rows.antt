@@ -156,16 +156,18 @@ ltb-other d k ne =
     (λ t. yes-ltb {a = d} {b = k + 1} (omega (arith, ltb→lt d k t)))
     (λ t. yes-ltb {a = d} {b = k} (omega (arith, ltb→lt d (k + 1) t, ne)))
 
-pub more : (old new : List ℕ) (from into k : ℕ) → HasRow old into → k < 8 → Joining old new from into k
-    → Joining old (set new (into * 8 + k) (bitOr (getD new (into * 8 + k) 0) (getD new (from * 8 + k) 0))) from into (k + 1)
+-- one word more, by where it is stored and what
+pub more : (old new : List ℕ) (from into k at word : ℕ) → HasRow old into → k < 8 → Joining old new from into k → at ≡ into * 8 + k
+    → word ≡ bitOr (getD new (into * 8 + k) 0) (getD new (from * 8 + k) 0) → Joining old (set new at word) from into (k + 1)
 unfolding marked
-more old new from into k h hk g =
+more old new from into k at word h hk g there stored =
+    rw (there, stored)
     record {
       size = simp length-set (g .size);
       marks = λ u v hv.
           let here = eqb (wordOf u v) (into * 8 + k) in
           let source = bit (getD new (from * 8 + k) 0) (v % 32) in
-          let word : T here → wordOf u v ≡ into * 8 + k = eqb→eq (wordOf u v) (into * 8 + k) in
+          let same-word : T here → wordOf u v ≡ into * 8 + k = eqb→eq (wordOf u v) (into * 8 + k) in
           word-or new (into * 8 + k) (getD new (from * 8 + k) 0) (wordOf u v) (v % 32) (omega (arith, g .size))
           ∙ ap (λ (b : Bool). b || (here && source)) (g .marks u v hv)
           ∙ one-more
@@ -176,9 +178,9 @@ more old new from into k h hk g =
           here
           source
           (ltb (v / 32) (k + 1))
-          (λ q. yes-eqb {a = u} {b = into} (omega (arith, word q)))
-          (λ q. yes-ltb {a = v / 32} {b = k + 1} (omega (arith, word q)))
-          (λ q. unchanged old new from into k v hv (omega (arith, word q)) g)
+          (λ q. yes-eqb {a = u} {b = into} (omega (arith, same-word q)))
+          (λ q. yes-ltb {a = v / 32} {b = k + 1} (omega (arith, same-word q)))
+          (λ q. unchanged old new from into k v hv (omega (arith, same-word q)) g)
           (λ n e. ltb-other (v / 32) k (λ d. eqb-no {a = wordOf u v} {b = into * 8 + k} n (omega (arith, eqb→eq u into e))));
     }
 

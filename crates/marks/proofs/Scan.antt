@@ -74,17 +74,23 @@ pub done : (P : ℕ → Type 0) (k : ℕ) → k ≡ 0 → Passed P k → (v : �
 done P k e g v = g .none v (omega arith)
 
 -- Word k shows none of the numbers, or one: those in both rows, and those in the first only.
-module _ (a : List ℕ) (i : ℕ) (b : List ℕ) (j k : ℕ) (h : k < 8) where
-  pub more-both : (m : ℕ) → m ≡ k + 1 → bitAnd (getD a (i * 8 + k) 0) (getD b (j * 8 + k) 0) ≡ 0 → Passed (Both a i b j) m → Passed (Both a i b j) k
-  more-both m e = more (Both a i b j) m k _ e (shows-both a i b j k h)
+module _ (a : List ℕ) (i : ℕ) (b : List ℕ) (j k : ℕ) (h : k < 8) (x : ℕ) where
+  module _ (is : x ≡ bitAnd (getD a (i * 8 + k) 0) (getD b (j * 8 + k) 0)) where
+    shown-both : Shows (Both a i b j) k x
+    shown-both = rw is (shows-both a i b j k h)
 
-  pub found-both : (r : ℕ) → SetBit (bitAnd (getD a (i * 8 + k) 0) (getD b (j * 8 + k) 0)) r → Both a i b j (k * 32 + r)
-  found-both r t = shows-both a i b j k h .has r (t .within) (t .set)
+    pub more-both : (m : ℕ) → m ≡ k + 1 → x ≡ 0 → Passed (Both a i b j) m → Passed (Both a i b j) k
+    more-both m e = more (Both a i b j) m k x e shown-both
 
-  module _ (fits : (q : ℕ) → getD b q 0 < 2 ^ 32) where
-    pub more-only : (m : ℕ) → m ≡ k + 1 → bitAnd (getD a (i * 8 + k) 0) ((2 ^ 32 - 1) - getD b (j * 8 + k) 0) ≡ 0 → Passed (Only a i b j) m
-        → Passed (Only a i b j) k
-    more-only m e = more (Only a i b j) m k _ e (shows-only a i b j k h (fits _))
+    pub found-both : (r : ℕ) → SetBit x r → Both a i b j (k * 32 + r)
+    found-both r t = shown-both .has r (t .within) (t .set)
 
-    pub found-only : (r : ℕ) → SetBit (bitAnd (getD a (i * 8 + k) 0) ((2 ^ 32 - 1) - getD b (j * 8 + k) 0)) r → Only a i b j (k * 32 + r)
-    found-only r t = shows-only a i b j k h (fits _) .has r (t .within) (t .set)
+  module _ (fits : (q : ℕ) → getD b q 0 < 2 ^ 32) (is : x ≡ bitAnd (getD a (i * 8 + k) 0) ((2 ^ 32 - 1) - getD b (j * 8 + k) 0)) where
+    shown-only : Shows (Only a i b j) k x
+    shown-only = rw is (shows-only a i b j k h (fits _))
+
+    pub more-only : (m : ℕ) → m ≡ k + 1 → x ≡ 0 → Passed (Only a i b j) m → Passed (Only a i b j) k
+    more-only m e = more (Only a i b j) m k x e shown-only
+
+    pub found-only : (r : ℕ) → SetBit x r → Only a i b j (k * 32 + r)
+    found-only r t = shown-only .has r (t .within) (t .set)

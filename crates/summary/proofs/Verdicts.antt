@@ -54,13 +54,16 @@ module _ (missing : ℕ → ℕ) where
       (λ same. ap (verdictOf missing) (sym same) ∙ e)
       (le-suc-iff .0 l)
 
-  pub short-found : (p n : ℕ) → verdictOf missing p ≡ Runs → 0 < missing p → p < n → verdictOf missing n ≡ Short (record { 0 = p }) (missing p)
+  -- the place and the count that are told
+  pub short-found : (p n q m : ℕ) → verdictOf missing p ≡ Runs → 0 < missing p → p < n → q ≡ p → m ≡ missing p
+      → verdictOf missing n ≡ Short (record { 0 = q }) m
   unfolding verdictOf
-  short-found p n e l h =
-      stays
+  short-found p n q m e l h at is =
+      rw (at, is)
+      (stays
       (suc p)
       n
       (record { 0 = p })
       (missing p)
       (ap₂ (λ (v : Verdict) (b : Bool). decides v b p (missing p)) e (lt-ltb 0 (missing p) l))
-      h
+      h)

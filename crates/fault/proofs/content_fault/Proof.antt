@@ -1,26 +1,26 @@
 -- Test after test, in the order of the list: a test that failed says that its fault is absent, and the first that passed is told.
-use mathlib.Core.Path.{refl}
+use native.Mathlib.Omega.{arith}
+use mathlib.Core.Path.{_∙_}
 use borrow.Author.Needs.{needs}
-use borrow.Author.Tests.{eqb-false}
 use Rattle.sheet.specs.Chain.{told}
 use Rattle.fault.proofs.Chain.{fault-5, fault-6, fault-7, fault-8, fault-9, fault-rest}
 use Rattle.fault.proofs.content_fault.Statement.{statement}
 use Rattle.fault.proofs.content_fault.Tie as tie
 
 returns : tie.Need-returns
-returns c = (fault-5 _ (search told), λ e. absurd (eqb-false 5 0 refl e))
+returns c = ((omega arith) ∙ fault-5 _ (search told), λ e. absurd (omega arith))
 
 returns-2 : tie.Need-returns-2
-returns-2 c = (fault-6 _ (search told) (search told), λ e. absurd (eqb-false 6 0 refl e))
+returns-2 c = ((omega arith) ∙ fault-6 _ (search told) (search told), λ e. absurd (omega arith))
 
 returns-3 : tie.Need-returns-3
-returns-3 c = (fault-7 _ (search told) (search told) (search told), λ e. absurd (eqb-false 7 0 refl e))
+returns-3 c = ((omega arith) ∙ fault-7 _ (search told) (search told) (search told), λ e. absurd (omega arith))
 
 returns-4 : tie.Need-returns-4
-returns-4 c = (fault-8 _ (search told) (search told) (search told) (search told), λ e. absurd (eqb-false 8 0 refl e))
+returns-4 c = ((omega arith) ∙ fault-8 _ (search told) (search told) (search told) (search told), λ e. absurd (omega arith))
 
 returns-5 : tie.Need-returns-5
-returns-5 c = (fault-9 _ (search told) (search told) (search told) (search told) (search told), λ e. absurd (eqb-false 9 0 refl e))
+returns-5 c = ((omega arith) ∙ fault-9 _ (search told) (search told) (search told) (search told) (search told), λ e. absurd (omega arith))
 
 order-fault-requires : tie.Need-order-fault-requires
 order-fault-requires c κs =

@@ -1,5 +1,7 @@
 -- Test after test, in the order of the list: a test that failed says that its fault is absent, and the first that passed is told. The layout is
 -- read once the table is there.
+use native.Mathlib.Omega.{arith}
+use mathlib.Core.Path.{_∙_}
 use borrow.Author.Needs.{needs}
 use denote.Ref.{now}
 use Rattle.sheet.specs.Chain.{told}
@@ -15,7 +17,7 @@ layout-of-requires c κs = let start : tie.Start = search in whole (now (start .
 returns-2 : tie.Need-returns-2
 returns-2 c =
     let read : tie.After-layout-of = search in
-    fault-2 _ (search told) (told (c .before .over-limit .ensures _ (read .layout-of .ensures)) (c .if2 .taken))
+    (omega arith) ∙ fault-2 _ (search told) (told (c .before .over-limit .ensures _ (read .layout-of .ensures)) (c .if2 .taken))
 
 misplaced-body-requires : tie.Need-misplaced-body-requires
 misplaced-body-requires c κs =
@@ -30,7 +32,7 @@ returns-3 c =
     let two : tie.Else2 = search in
     let is = read .layout-of .ensures in
     let no-2 = told (two .before .over-limit .ensures _ is) (two .if2 .left) in
-    fault-3 _ (search told) no-2 (told (c .before .misplaced-body .ensures _ is) (c .if3 .taken))
+    (omega arith) ∙ fault-3 _ (search told) no-2 (told (c .before .misplaced-body .ensures _ is) (c .if3 .taken))
 
 wrong-end-requires : tie.Need-wrong-end-requires
 wrong-end-requires c κs =
@@ -50,7 +52,7 @@ returns-4 c =
     let is = read .layout-of .ensures in
     let no-2 = told (two .before .over-limit .ensures _ is) (two .if2 .left) in
     let no-3 = told (three .before .misplaced-body .ensures _ is) (three .if3 .left) in
-    fault-4 _ (search told) no-2 no-3 (search told)
+    (omega arith) ∙ fault-4 _ (search told) no-2 no-3 (search told)
 
 returns-5 : tie.Need-returns-5
 returns-5 c =
@@ -60,14 +62,14 @@ returns-5 c =
     let is = read .layout-of .ensures in
     let no-2 = told (two .before .over-limit .ensures _ is) (two .if2 .left) in
     let no-3 = told (three .before .misplaced-body .ensures _ is) (three .if3 .left) in
-    no-fault _ (search told) no-2 no-3 (search told)
+    (omega arith) ∙ no-fault _ (search told) no-2 no-3 (search told)
 
 pub layout-fault-spec : {M : Type 1} → statement M
 layout-fault-spec =
     tie.close
     (tie.spec
     (λ c κs. search needs)
-    (λ c. fault-1 _ (search told))
+    (λ c. (omega arith) ∙ fault-1 _ (search told))
     layout-of-requires
     (λ c κs. search needs)
     returns-2

@@ -24,7 +24,7 @@ returns-4 c s is =
     let one : tie.Else1 = search in
     let two : tie.Else2 = search in
     let three : tie.Else3 = search in
-    wrong-last s _ is (one .if1 .left) (two .if2 .left) (three .if3 .left)
+    wrong-last s _ is _ (omega arith) (one .if1 .left) (two .if2 .left) (three .if3 .left)
 
 pub misplaced-body-spec : {M : Type 1} → statement M
 misplaced-body-spec =

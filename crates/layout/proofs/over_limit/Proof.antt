@@ -11,4 +11,4 @@ over-limit-spec =
     (λ c s is. over-places s _ is (omega arith))
     (λ c s is. over-transitions s _ is (omega arith))
     (λ c s is. over-events s _ is (omega arith))
-    (λ c s is. over-last s _ is (omega arith) (omega arith) (omega arith)))
+    (λ c s is. over-last s _ is _ (omega arith) (omega arith) (omega arith) (omega arith)))

@@ -22,7 +22,7 @@ returns : tie.Need-returns
 returns c =
     let start : tie.Start = search in
     let at : tie.After-transition-at = search in
-    c .get16 .ensures .0 ∙ takes-is _ _ (start .pre .0) _ _ (at .transition-at .ensures) _
+    c .get16 .ensures .0 ∙ takes-is _ _ (start .pre .0) _ _ (at .transition-at .ensures) _ _ (omega arith)
 
 pub takes-spec : {M : Type 1} → statement M
 takes-spec = tie.close (tie.spec (λ c κs. search needs) (λ c. search needs) add-get16 get16-requires returns)

@@ -18,7 +18,7 @@ loop-holds c = (search needs, start _ _ _ _ (omega arith))
 loop-again : tie.Need-loop-again Inv-loop μ-loop
 loop-again c =
     let at-loop : tie.At-loop Inv-loop μ-loop = search in
-    (search needs, more _ _ _ _ _ (omega arith) (omega arith) (at-loop .loop .inv .1))
+    (search needs, more _ _ _ _ _ _ _ (omega arith) (omega arith) (at-loop .loop .inv .1) (omega arith) (cc))
 
 returns : tie.Need-returns Inv-loop μ-loop
 returns c = done _ _ _ _ _ (omega arith) (c .before .loop .inv .1)

@@ -18,12 +18,12 @@ loop-holds c = (search needs, start _ _ (omega arith) (λ v p. p .below))
 
 returns : tie.Need-returns Inv-loop μ-loop
 returns c =
-    found-both _ _ _ _ _ (omega arith) _ (c .top .ensures)
+    found-both _ _ _ _ _ (omega arith) _ (cc) _ (c .top .ensures)
 
 loop-again : tie.Need-loop-again Inv-loop μ-loop
 loop-again c =
     let at-loop : tie.At-loop Inv-loop μ-loop = search in
-    (search needs, more-both _ _ _ _ _ (omega arith) _ (omega arith) (c .if1 .left) (at-loop .loop .inv .1))
+    (search needs, more-both _ _ _ _ _ (omega arith) _ (cc) _ (omega arith) (c .if1 .left) (at-loop .loop .inv .1))
 
 returns-2 : tie.Need-returns-2 Inv-loop μ-loop
 returns-2 c = done _ _ (omega arith) (c .before .loop .inv .1)

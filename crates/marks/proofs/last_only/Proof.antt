@@ -19,13 +19,15 @@ loop-holds c = (search needs, start _ _ (omega arith) (λ v p. p .below))
 returns : tie.Need-returns Inv-loop μ-loop
 returns c =
     let known : tie.After-shared-slice-known2 Inv-loop μ-loop = search in
-    found-only _ _ _ _ _ (omega arith) (λ q. omega (arith, known .shared-slice-known2 .given q)) _ (c .top .ensures)
+    found-only _ _ _ _ _ (omega arith) _ (λ q. omega (arith, known .shared-slice-known2 .given q)) (cc) _ (c .top .ensures)
 
 loop-again : tie.Need-loop-again Inv-loop μ-loop
 loop-again c =
     let at-loop : tie.At-loop Inv-loop μ-loop = search in
-    let known : tie.After-shared-slice-known2 Inv-loop μ-loop = search in
-    (search needs, more-only _ _ _ _ _ (omega arith) (λ q. omega (arith, known .shared-slice-known2 .given q)) _ (omega arith) (c .if1 .left) (at-loop .loop .inv .1))
+    let known : tie.After-shared-slice-known2 Inv-loop μ-loop = search in (
+      search needs,
+      more-only _ _ _ _ _ (omega arith) _ (λ q. omega (arith, known .shared-slice-known2 .given q)) (cc) _ (omega arith) (c .if1 .left) (at-loop .loop .inv .1),
+    )
 
 returns-2 : tie.Need-returns-2 Inv-loop μ-loop
 returns-2 c = done _ _ (omega arith) (c .before .loop .inv .1)

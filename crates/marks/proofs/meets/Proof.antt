@@ -18,7 +18,21 @@ loop-holds c = (search needs, start _ _ _ _ _ _ (omega arith) (omega arith))
 loop-again : tie.Need-loop-again Inv-loop μ-loop
 loop-again c =
     let at-loop : tie.At-loop Inv-loop μ-loop = search in
-    (search needs, more _ _ _ _ _ _ (λ q. omega (arith, c .before .shared-slice-known .given q)) (λ q. omega (arith, c .shared-slice-known2 .given q)) (at-loop .loop .inv .1))
+    let first : tie.After-shared-slice-known Inv-loop μ-loop = search in (
+      search needs,
+      more
+          _
+          _
+          _
+          _
+          _
+          _
+          _
+          (λ q. omega (arith, first .shared-slice-known .given q))
+          (λ q. omega (arith, c .shared-slice-known2 .given q))
+          (cc)
+          (at-loop .loop .inv .1),
+    )
 
 returns : tie.Need-returns Inv-loop μ-loop
 returns c = done _ _ _ _ _ _ (omega arith) (c .before .loop .inv .1)

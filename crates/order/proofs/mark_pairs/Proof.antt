@@ -8,6 +8,7 @@ use denote.Ref.{now}
 use Rattle.finite.specs.Bounded.{any}
 use Rattle.finite.specs.Search.{search-start, search-more, search-found, search-done}
 use Rattle.marks.specs.Marks.{marked}
+use Rattle.sheet.specs.Chain.{told}
 use Rattle.sheet.specs.Items.{planOf}
 use Rattle.sheet.specs.Faults.{repeatAt, repeated}
 use Rattle.order.specs.Rows.{PairsMarked}
@@ -46,7 +47,7 @@ loop-again c =
     let a = read .before .earlier .ensures in
     let b = read .later .ensures in (
       search needs,
-      search-more _ _ (at-loop .loop .inv .1) (cc (repeats read)),
+      search-more _ _ (at-loop .loop .inv .1) (search (told, repeats read)),
       more _ _ _ _ _ _ (at-loop .loop .inv .2) _ _ a b (one .mark .ensures) (two .mark2 .ensures),
     )
 
@@ -64,7 +65,7 @@ returns c =
     let entry : tie.Start Inv-loop μ-loop = search in
     let in-loop : tie.In-loop Inv-loop μ-loop = search in
     let read : tie.After-later Inv-loop μ-loop = search in
-    (search-found _ _ _ _ (entry .pre .0 .1 .pairs) (in-loop .loop-test .taken) (cc (repeats read)), λ e. absurd (true≢false e))
+    (search-found _ _ _ _ (entry .pre .0 .1 .pairs) (in-loop .loop-test .taken) (search (told, repeats read)), λ e. absurd (true≢false e))
 
 mark-requires : tie.Need-mark-requires Inv-loop μ-loop
 mark-requires c κs = let read : tie.After-later Inv-loop μ-loop = search in omega (arith, within read)

@@ -18,7 +18,7 @@ abbrev μ-loop : tie.MeasureT-loop
 returns : tie.Need-returns Inv-loop μ-loop
 returns c =
     let at-loop : tie.At-loop Inv-loop μ-loop = search in
-    sym (short-found _ _ _ (at-loop .loop .inv .1) (c .before .if1 .taken) (omega arith))
+    sym (short-found _ _ _ _ _ (at-loop .loop .inv .1) (c .before .if1 .taken) (omega arith) (omega arith) (omega arith))
 
 loop-again : tie.Need-loop-again Inv-loop μ-loop
 loop-again c =

@@ -16,6 +16,9 @@ Inv-loop s l p₀ p-end p = (p ≤ l .places) × (any p (overOpeningAt s) ≡ fa
 abbrev μ-loop : tie.MeasureT-loop
 μ-loop s l p₀ p-end p = l .places - p
 
+loop-again : tie.Need-loop-again Inv-loop μ-loop
+loop-again c = (search needs, search (needs, opening-more))
+
 pub over-opening-spec : {M : Type 1} → statement M
 unfolding overOpening
 over-opening-spec =
@@ -28,5 +31,5 @@ over-opening-spec =
     (λ c. search (needs, opening-found))
     (λ c. search needs)
     (λ c. search needs)
-    (λ c. (search needs, search (needs, opening-more)))
+    loop-again
     (λ c. search (needs, search-done)))

@@ -16,6 +16,9 @@ Inv-loop s l t₀ t-end t = (t ≤ l .transitions) × (any t (overWeightIn s) �
 abbrev μ-loop : tie.MeasureT-loop
 μ-loop s l t₀ t-end t = l .transitions - t
 
+loop-again : tie.Need-loop-again Inv-loop μ-loop
+loop-again c = (search needs, search (needs, weight-more))
+
 pub over-weight-spec : {M : Type 1} → statement M
 unfolding overWeight
 over-weight-spec =
@@ -28,5 +31,5 @@ over-weight-spec =
     (λ c. search (needs, weight-found))
     (λ c. search needs)
     (λ c. search needs)
-    (λ c. (search needs, search (needs, weight-more)))
+    loop-again
     (λ c. search (needs, search-done)))
