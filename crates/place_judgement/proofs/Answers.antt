@@ -1,20 +1,24 @@
 -- The answer of the place judgement and its rows, at each place where it is given.
-use Prim.Native.Nat.{ℕ, zero, suc, _<_, _≤_}
+use Prim.Native.Nat.{ℕ, zero, suc, _+_, _<_, _≤_}
 use native.Mathlib.Omega.{arith}
 use mathlib.Core.List.{List}
 use mathlib.Core.Path.{_≡_, refl, sym, ap, _∙_}
-use borrow.Author.Tests.{eqb-false}
+use lib.Dec.{leb, ltb}
 use lib.ListN.{length}
 use Rattle.plan.specs.Prefix.{missing}
-use Rattle.sheet.specs.Table.{placesOf, eventsOf}
+use Rattle.sheet.specs.Table.{eventsOf}
 use Rattle.sheet.specs.Items.{netOf, planOf}
 use Rattle.sheet.specs.Faults.{faultOf}
-use Rattle.calls.specs.Call.{placeFault, sheet-first, no-place, a-place, lower-first, short-row, long-row}
+use Rattle.sheet.specs.Faultless.{Faultless, faultless}
+use Rattle.layout.specs.Layout.{LayoutOf}
+use Rattle.fault.specs.declared.Examined.{Examined}
+use Rattle.calls.specs.Call.{placeFault, place-known, row-known}
+use Rattle.calls.specs.Refusal.{FaultTold, Next, place-link, row-link}
 use Rattle.calls.specs.FlowRow.{flowLength, flowFault}
-use Rattle.calls.specs.Overwritten.{overwritten, at-fault, at-none}
+use Rattle.calls.specs.Overwritten.{at-fault, at-none}
 use Rattle.place_judgement.specs.declared.Judgement.{Judgement}
 use Rattle.place_judgement.specs.declared.Judgement.the-variants.{Fault, Runs, Short}
-use Rattle.place_judgement.specs.Handed.{doneMark, Written}
+use Rattle.place_judgement.specs.Handed.{marksDone, Written}
 use Rattle.place_judgement.specs.Judgement.{answer, judgeFault, judgementOf, marksAfter, Handed}
 
 runs-is : (m k : ℕ) → m ≡ k → m ≡ 0 → Runs ≡ answer 0 k
@@ -27,16 +31,26 @@ unfolding answer
 short-is m zero e some = absurd (some e)
 short-is m (suc k) e some = ap Short e
 
+-- the fault of the call, by its four links
+pub fault-told : (s : List ℕ) (p : ℕ) (flow marks : List ℕ) (seen placed numbered e : Examined) → FaultTold s (faultOf s) seen
+    → Next seen (leb (seen .layout .places) p) 12 placed → Next placed (ltb (length flow) (placed .layout .pairs + placed .layout .events)) 13 numbered
+    → Next numbered (ltb (length marks) (numbered .layout .events)) 13 e → FaultTold s (judgeFault s p flow marks) e
+unfolding judgeFault flowFault
+fault-told s p flow marks seen placed numbered e told at-place at-flow at-marks =
+    let place = place-link s seen p placed told at-place in
+    let row = row-link s _ placed place flow _ _ (flowLength s) numbered refl (λ l. omega (arith, l .pairs, l .events)) at-flow in
+    row-link s _ numbered row marks _ _ (eventsOf s) e refl (λ l. l .events) at-marks
+
 module _ (s : List ℕ) (p : ℕ) (flow marks : List ℕ) where
   -- what is promised of an answer and of the rows at return
   abbrev pub Answered : Judgement → List ℕ → List ℕ → Type 0
   Answered r flow′ marks′ =
       (r ≡ judgementOf s p flow marks) × ((marks′ ≡ marksAfter s p flow marks) × Handed s p flow marks flow′)
 
-  told : (k : ℕ) → ¬ (k ≡ 0) → judgeFault s p flow marks ≡ k → Answered (Fault k) flow marks
+  refused-by : (k : ℕ) → ¬ (k ≡ 0) → judgeFault s p flow marks ≡ k → Answered (Fault k) flow marks
   unfolding judgementOf answer marksAfter
-  told zero some e = absurd (some refl)
-  told (suc k) some e = (
+  refused-by zero some e = absurd (some refl)
+  refused-by (suc k) some e = (
     simp e,
     (
       at-fault (judgeFault s p flow marks) _ marks (λ z. some (sym e ∙ z)),
@@ -44,58 +58,52 @@ module _ (s : List ℕ) (p : ℕ) (flow marks : List ℕ) where
     ),
   )
 
-  flow-told : (k : ℕ) → ¬ (k ≡ 0) → flowFault s p flow ≡ k → Answered (Fault k) flow marks
-  unfolding judgeFault
-  flow-told k some e =
-      told k some (lower-first (flowFault s p flow) marks (eventsOf s) (λ z. some (sym e ∙ z)) ∙ e)
+  module _ (e : Examined) (told : FaultTold s (judgeFault s p flow marks) e) where
+    pub refused : ¬ (e .fault ≡ 0) → Answered (Fault (e .fault)) flow marks
+    refused some = refused-by (e .fault) some (sym (told .number))
 
-  place-told : (k : ℕ) → ¬ (k ≡ 0) → placeFault s p ≡ k → Answered (Fault k) flow marks
-  unfolding flowFault
-  place-told k some e =
-      flow-told k some (lower-first (placeFault s p) flow (flowLength s) (λ z. some (sym e ∙ z)) ∙ e)
+    module _ (none : e .fault ≡ 0) where
+      clear : judgeFault s p flow marks ≡ 0
+      clear = sym (told .number) ∙ none
 
-  pub sheet-fault : (k : ℕ) → k ≡ faultOf s → ¬ (k ≡ 0) → Answered (Fault k) flow marks
-  sheet-fault k e some = place-told k some (sheet-first s p (λ z. some (e ∙ z)) ∙ sym e)
+      by-marks : (flowFault s p flow ≡ 0) × (eventsOf s ≤ length marks)
+      unfolding judgeFault
+      by-marks = row-known (flowFault s p flow) marks (eventsOf s) clear
 
-  module _ (none : faultOf s ≡ 0) where
-    pub place-fault : placesOf s ≤ p → Answered (Fault 12) flow marks
-    place-fault l = place-told 12 (eqb-false 12 0 refl) (no-place s p none l)
-
-    module _ (place : p < placesOf s) where
-      pub flow-fault : length flow < flowLength s → Answered (Fault 13) flow marks
+      by-flow : (placeFault s p ≡ 0) × (flowLength s ≤ length flow)
       unfolding flowFault
-      flow-fault l =
-          flow-told 13 (eqb-false 13 0 refl) (short-row (placeFault s p) flow (flowLength s) (a-place s p none place) l)
+      by-flow = row-known (placeFault s p) flow (flowLength s) (by-marks .0)
 
-      module _ (long : flowLength s ≤ length flow) where
-        flow-clear : flowFault s p flow ≡ 0
-        unfolding flowFault
-        flow-clear = long-row (placeFault s p) flow (flowLength s) (a-place s p none place) long
+      pub taken : faultOf s ≡ 0
+      taken = place-known s p (by-flow .0) .0
 
-        pub marks-fault : length marks < eventsOf s → Answered (Fault 13) flow marks
-        unfolding judgeFault
-        marks-fault l = told 13 (eqb-false 13 0 refl) (short-row (flowFault s p flow) marks (eventsOf s) flow-clear l)
+      pub known : Faultless s
+      known = faultless s taken
 
-        module _ (room : eventsOf s ≤ length marks) where
-          clear : judgeFault s p flow marks ≡ 0
-          unfolding judgeFault
-          clear = long-row (flowFault s p flow) marks (eventsOf s) flow-clear room
+      pub laid : LayoutOf s (e .layout)
+      laid = told .laid clear
 
-          judged-told : (r : Judgement) (flow′ marks′ : List ℕ) → r ≡ answer 0 (missing (netOf s) (planOf s) p)
-              → marks′ ≡ overwritten (doneMark (netOf s) (planOf s) p) (eventsOf s) marks → Written s p flow flow′ → Answered r flow′ marks′
-          unfolding judgementOf marksAfter
-          judged-told r flow′ marks′ e d w = (
-            e ∙ ap (λ (k : ℕ). answer k (missing (netOf s) (planOf s) p)) (sym clear),
-            (
-              d ∙ at-none (judgeFault s p flow marks) _ marks clear,
-              record { fault = λ some. absurd (some clear); judged = λ _. w },
-            ),
-          )
+      pub place : p < e .layout .places
+      place = omega (arith, laid .places, place-known s p (by-flow .0) .1)
 
-          module _ (m : ℕ) (flow′ marks′ : List ℕ) (count : m ≡ missing (netOf s) (planOf s) p) (done : marks′ ≡ overwritten (doneMark (netOf s) (planOf s) p) (eventsOf s) marks) (written : Written s p flow flow′) where
-            pub runs-told : m ≡ 0 → Answered Runs flow′ marks′
-            runs-told none = judged-told Runs flow′ marks′ (runs-is m (missing (netOf s) (planOf s) p) count none) done written
+      pub room : (e .layout .pairs + e .layout .events ≤ length flow) × (e .layout .events ≤ length marks)
+      room = (omega (arith, laid .pairs, laid .events, by-flow .1), omega (arith, laid .events, by-marks .1))
 
-            pub short-told : ¬ (m ≡ 0) → Answered (Short m) flow′ marks′
-            short-told some =
-                judged-told (Short m) flow′ marks′ (short-is m (missing (netOf s) (planOf s) p) count some) done written
+      judged-told : (r : Judgement) (flow′ marks′ : List ℕ) → r ≡ answer 0 (missing (netOf s) (planOf s) p)
+          → marks′ ≡ marksDone s p marks → Written s p flow flow′ → Answered r flow′ marks′
+      unfolding judgementOf marksAfter
+      judged-told r flow′ marks′ e d w = (
+        e ∙ ap (λ (k : ℕ). answer k (missing (netOf s) (planOf s) p)) (sym clear),
+        (
+          d ∙ at-none (judgeFault s p flow marks) _ marks clear,
+          record { fault = λ some. absurd (some clear); judged = λ _. w },
+        ),
+      )
+
+      module _ (m : ℕ) (flow′ marks′ : List ℕ) (count : m ≡ missing (netOf s) (planOf s) p) (done : marks′ ≡ marksDone s p marks) (written : Written s p flow flow′) where
+        pub runs-told : m ≡ 0 → Answered Runs flow′ marks′
+        runs-told none = judged-told Runs flow′ marks′ (runs-is m (missing (netOf s) (planOf s) p) count none) done written
+
+        pub short-told : ¬ (m ≡ 0) → Answered (Short m) flow′ marks′
+        short-told some =
+            judged-told (Short m) flow′ marks′ (short-is m (missing (netOf s) (planOf s) p) count some) done written

@@ -1,9 +1,9 @@
 -- What a settled place hands over, where it runs and where it is short.
-use Prim.Native.Nat.{ℕ, _+_, _<_}
+use Prim.Native.Nat.{ℕ, _+_, _-_, _≤_, _<_}
 use native.Mathlib.Omega.{arith}
 use mathlib.Core.Bool.{Bool, cond, _&&_}
 use mathlib.Core.List.{List}
-use mathlib.Core.Path.{_≡_, refl, sym, ap, _∙_}
+use mathlib.Core.Path.{_≡_, refl, sym, ap, subst, _∙_}
 use borrow.Author.Tests.{lt-ltb, le-ltb}
 use lib.Dec.{T}
 use Rattle.finite.specs.Filled.{Filled}
@@ -11,16 +11,33 @@ use Rattle.finite.specs.Subset.{Set}
 use Rattle.plan.specs.Net.{Net, Plan}
 use Rattle.plan.specs.Flow.{valid}
 use Rattle.plan.specs.Prefix.{missing, smallest}
+use Rattle.sheet.specs.Faultless.{Faultless}
 use Rattle.sheet.specs.Items.{netOf, planOf}
+use Rattle.sheet.specs.Table.{pairsOf}
+use Rattle.order.specs.Rows.{OrderRows}
+use Rattle.ids.specs.Limits.{mostEvents}
 use Rattle.layout.specs.Layout.{LayoutOf}
+use Rattle.marks.specs.Marks.{marked}
 use Rattle.layout.specs.declared.Layout.{Layout}
-use Rattle.tokenflow.specs.Rows.{Rows}
+use Rattle.tokenflow.specs.Rows.{Rows, rows, fedBy}
+use Rattle.tokenflow.specs.Flowing.{Flowing, lacking}
 use Rattle.search.specs.Row.{members}
 use Rattle.calls.specs.FlowRow.{flowLength, flowOf}
 use Rattle.calls.specs.Overwritten.{overwritten, filled-is}
-use Rattle.place.specs.Judged.{Judged}
-use Rattle.fold.specs.Written.{SharesFrom}
-use Rattle.place_judgement.specs.Handed.{doneMark, markOf, Written}
+use Rattle.place.specs.Judged.{Judged, JudgedIn}
+use Rattle.fold.specs.Folded.{Folded}
+use Rattle.fold.specs.Feeding.{Foldable}
+use Rattle.fold.specs.FromSheet.{sheet-foldable}
+use Rattle.fold.specs.Linked.{Linked}
+use Rattle.fold.specs.Written.{numbersOf, SharesFrom, written-valid}
+use Rattle.place_judgement.specs.Handed.{doneMark, markOf, validAt, Written}
+
+-- the mark of v, by the test of it
+pub mark-is : (set : List ℕ) (v : ℕ) (b : Bool) {a : Bool} → v < mostEvents → a ≡ marked set 0 v → a ≡ b → cond {A = ℕ} b 1 0 ≡ markOf set v
+unfolding members
+mark-is set v b near test told =
+    let member : members set v ≡ marked set 0 v = simp (lt-ltb v 256 near) in
+    ap (λ (x : Bool). cond {A = ℕ} x 1 0) (sym told ∙ test ∙ sym member)
 
 filled-as : (f g : ℕ → ℕ) (k l : ℕ) (old new : List ℕ) → k ≡ l → ((i : ℕ) → f i ≡ g i) → Filled f k old new → new ≡ overwritten g l old
 filled-as f g k l old new e same h =
@@ -62,7 +79,7 @@ module _ (s : List ℕ) (p : ℕ) (pred : List ℕ) (r : Rows) (givers : List �
         size = h .size;
         rest = λ i k. h .rest i (omega (arith, e));
         runs = λ _. right;
-        short = λ _. absurd (omega (arith, j .count, none));
+        short = λ some. absurd (omega (arith, j .count, none, some));
       }
 
   pub short-flow : ¬ (m ≡ 0) → Filled (λ i. 0) (l .pairs + l .events) flow flow′ → Written s p flow flow′
@@ -73,3 +90,19 @@ module _ (s : List ℕ) (p : ℕ) (pred : List ℕ) (r : Rows) (givers : List �
         runs = λ none. absurd (omega (arith, j .count, none, some));
         short = λ _. filled-as (λ i. 0) (λ i. 0) (l .pairs + l .events) (flowLength s) flow flow′ (omega (arith, e)) (λ i. refl) h;
       }
+
+-- The rows of a judged place can be folded onto the skeleton pairs, and where nothing is missing that makes a valid flow.
+module _ (s : List ℕ) (known : Faultless s) (p : ℕ) (l : Layout) (e : LayoutOf s l) (place : p < l .places) (pred amount fed share givers : List ℕ) (m : ℕ) (j : JudgedIn s p pred amount fed share givers m) where
+  pub judged-foldable : (succ skel index : List ℕ) → OrderRows (planOf s) succ pred → Linked (planOf s) (pairsOf s) skel index
+      → Foldable (planOf s) (l .events) succ skel index amount fed
+  judged-foldable succ skel index order linked =
+      let flowing = subst (λ (k : ℕ). Flowing k pred (rows amount fed (j .0) share)) (sym (e .events)) (j .1 .flows) in
+      sheet-foldable s known p (l .events) (omega (arith, e .places)) (e .events) succ pred skel index order linked (rows amount fed (j .0) share) _ _ flowing (j .1 .flow)
+
+  pub judged-valid : (flow flow′ : List ℕ) → m ≡ 0 → Folded (planOf s) (fedBy amount fed) (numbersOf flow′) → SharesFrom (l .pairs) flow flow′ share (l .events)
+      → T (validAt s p flow′)
+  unfolding lacking
+  judged-valid flow flow′ none folded written =
+      let pairs = subst (λ (k : ℕ). SharesFrom k flow flow′ share (l .events)) (e .pairs) written in
+      let all = subst (λ (k : ℕ). SharesFrom (planOf s .pairs) flow flow′ share k) (e .events) pairs in
+      written-valid (netOf s) (planOf s) p _ _ share flow flow′ (j .1 .flow) folded all (omega (arith, j .1 .lacks, none))

@@ -1,0 +1,43 @@
+-- `handing::write_marks` meets its contract. The invariant: the events below v are marked as they are in the set.
+use Prim.Native.Nat.{ℕ, _-_, _≤_, zero-le}
+use native.Mathlib.Omega.{arith}
+use mathlib.Core.Path.{_≡_}
+use borrow.Author.Needs.{needs}
+use Rattle.finite.specs.Filled.{Filled, filled-none, filled-more}
+use Rattle.place_judgement.specs.Handed.{markOf}
+use Rattle.place_judgement.proofs.handing.write_marks.Statement.{statement}
+use Rattle.place_judgement.proofs.handing.write_marks.Tie as tie
+
+abbrev Inv-loop : tie.InvT-loop
+Inv-loop set marks₀ n v₀ marks v = (v ≤ n) × Filled (markOf set) v marks₀ marks
+
+abbrev μ-loop : tie.MeasureT-loop
+μ-loop set marks₀ n v₀ marks v = n - v
+
+loop-again : tie.Need-loop-again Inv-loop μ-loop
+loop-again c =
+    let at : tie.At-loop Inv-loop μ-loop = search in
+    let marked : tie.After-done-mark Inv-loop μ-loop = search in
+    (omega arith, rw (marked .done-mark .ensures) (filled-more (markOf _) _ _ _ (omega arith) (at .loop .inv .1)))
+
+returns : tie.Need-returns Inv-loop μ-loop
+returns c =
+    let at : tie.At-loop Inv-loop μ-loop = search in
+    let s : tie.Start Inv-loop μ-loop = search in
+    let all : at .loop .v ≡ s .args .n = omega arith in
+    rw all at (at .loop .inv .1)
+
+pub write-marks-spec : {M : Type 1} → statement M
+write-marks-spec =
+    tie.close
+    (tie.spec
+    Inv-loop
+    μ-loop
+    (λ c. (zero-le, filled-none _ _))
+    (λ c κs. search needs)
+    (λ c. search needs)
+    (λ c. search needs)
+    (λ c. search needs)
+    loop-again
+    (λ c. search needs)
+    returns)
