@@ -11,7 +11,7 @@ use Rattle.tokenflow.specs.Rows.{fedBy, Rows}
 use Rattle.tokenflow.specs.Flowing.{Flowing}
 use Rattle.search.specs.Trail.{_!_, Takers, Givers, takersOf, giversOf, FedBy, MetBy}
 use Rattle.exchange.specs.Exchange.{Exchanged}
-use Rattle.exchange.specs.Walk.{trailRows, IsReady, TakerPlace, NextGiver}
+use Rattle.exchange.specs.Walk.{trailRows, IsReady, Unready, ReadyOn, TakerPlace, NextGiver}
 
 module _ {n : ℕ} {pred queue origin via : List ℕ} {r : Rows} {u : ℕ} {row : List ℕ} {tail : ℕ} {met : List ℕ}
     (h : IsReady n pred (trailRows queue origin via) r u row tail met) where
@@ -72,3 +72,8 @@ module _ {n : ℕ} {pred queue origin via : List ℕ} {r : Rows} {u : ℕ} {row 
         → IsReady n pred (trailRows queue origin via) r′ v row tail met
     next-ready v e r′ k f =
         subst (λ (z : ℕ). Exchanged n pred r r′ u (queue ! at) z k → IsReady n pred (trailRows queue origin via) r′ z row tail met) (sym e) (origin-ready r′ k f)
+
+-- where the giver at hand isn't ready, the first one wasn't
+pub never-ready : (n : ℕ) (pred queue origin via : List ℕ) (r r′ : Rows) (u v : ℕ) → ReadyOn n pred (trailRows queue origin via) r r′ u v
+    → Unready n pred (trailRows queue origin via) r′ v → Unready n pred (trailRows queue origin via) r u
+never-ready n pred queue origin via r r′ u v on not row tail met h = not row tail met (on row tail met h)

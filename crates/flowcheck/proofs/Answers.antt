@@ -34,15 +34,16 @@ module _ (s : List ℕ) (p : ℕ) (row : List ℕ) where
 
   -- An examined sheet, the test of the place and that of the row.
   module _ {succ pred : List ℕ} {e r t : Examined} (is : e .fault ≡ faultOf s)
-      (laid : e .fault ≡ 0 → LayoutOf s (e .layout) × OrderRows (planOf s) succ pred) (placed : Next e (leb (e .layout .places) p) 12 r)
-      (rowed : Next r (ltb (length row) (r .layout .pairs + r .layout .events)) 13 t) where
+      (laid : e .fault ≡ 0 → LayoutOf s (e .layout) × OrderRows (planOf s) succ pred) (q : ℕ) (asked : q ≡ p)
+      (placed : Next e (leb (e .layout .places) q) 12 r)
+      (needed : ℕ) (due : needed ≡ r .layout .pairs + r .layout .events) (rowed : Next r (ltb (length row) needed) 13 t) where
     place : FaultTold s (placeFault s p) r
-    place = place-link s e p r (record { number = is; laid = λ none. laid (is ∙ none) .0 }) placed
+    place = place-link s e p r (record { number = is; laid = λ none. laid (is ∙ none) .0 }) (rw asked at placed)
 
     all : FaultTold s (flowFault s p row) t
     unfolding flowFault
     all =
-        row-link s (placeFault s p) r place row (length row) _ (flowLength s) t refl (λ l. omega (arith, l .pairs, l .events)) rowed
+        row-link s (placeFault s p) r place row (length row) needed (flowLength s) t refl (λ l. omega (arith, due, l .pairs, l .events)) rowed
 
     pub fault-told : ¬ (t .fault ≡ 0) → Fault (t .fault) ≡ checkedOf s p row
     fault-told some = told (t .fault) (all .number) some

@@ -23,9 +23,9 @@ use Rattle.sheet.specs.Items.{earlierAt, laterAt, planOf}
 use Rattle.sheet.specs.Table.{pairsOf}
 use Rattle.fold.specs.Linked.{numberOf, Numbered, IsLink, Linked}
 
-pub numbered : (index : List ℕ) (a b i : ℕ) → a * mostEvents + b < length index → Numbered index (set index (a * mostEvents + b) i) a b i
-numbered index a b i l =
-    record { here = getD-set-same index _ i 0 l; others = λ at apart. getD-set-other index _ at i 0 apart }
+pub numbered : (index : List ℕ) (a b i at : ℕ) → at ≡ a * mostEvents + b → at < length index → Numbered index (set index at i) a b i
+numbered index a b i at is l =
+    rw is (record { here = getD-set-same index _ i 0 (omega arith); others = λ w apart. getD-set-other index _ w i 0 apart })
 
 pub links-none : (P : Plan) (m : ℕ) (skel index : List ℕ) → m ≡ 0 → Blank skel → Linked P m skel index
 links-none P m skel index none blank =

@@ -6,6 +6,7 @@ use Rattle.tokenflow.specs.Rows.{rows}
 use Rattle.drawing.specs.Moves.{Moved, moves}
 use Rattle.search.specs.Trail.{_!_}
 use Rattle.exchange.specs.Walk.{trailRows, ReadyOn}
+use Rattle.exchange.proofs.Steps.{never-ready}
 use Rattle.exchange.proofs.walk.Statement.{statement}
 use Rattle.exchange.proofs.walk.Tie as tie
 
@@ -29,7 +30,7 @@ returns-2 c =
     let stepped : tie.After-walk-step Inv-loop μ-loop = search in
     let said = rw (c .enum-told2 .given .1) at (stepped .walk-step .ensures .1) in
     let at-loop : tie.At-loop Inv-loop μ-loop = search in
-    (search (moves, needs), λ row tail met h. said row tail met (at-loop .loop .inv .2 row tail met h))
+    (search (moves, needs), never-ready _ _ _ _ _ _ _ _ _ (at-loop .loop .inv .2) said)
 
 loop-less : tie.Need-loop-less Inv-loop μ-loop
 loop-less c =

@@ -17,7 +17,7 @@ returns c =
     let placed : tie.After-with-place = search in
     let found : tie.After-with-row = search in
     let is = examined .examine .ensures in
-    fault-told _ _ _ (is .0) (is .1 .1) (placed .with-place .ensures) (found .with-row .ensures) (c .if1 .taken)
+    fault-told _ _ _ (is .0) (is .1 .1) _ (omega arith) (placed .with-place .ensures) _ (omega arith) (found .with-row .ensures) (c .if1 .taken)
 
 is-valid-requires : tie.Need-is-valid-requires
 is-valid-requires c κs =
@@ -27,7 +27,7 @@ is-valid-requires c κs =
     let is = examined .examine .ensures in
     let clear : tie.Else1 = search in
     let start : tie.Start = search in
-    let known = ready _ _ (start .args .row .now) (is .0) (is .1 .1) (placed .with-place .ensures) (found .with-row .ensures) (clear .if1 .left) in
+    let known = ready _ (start .args .p .0) (start .args .row .now) (is .0) (is .1 .1) _ (omega arith) (placed .with-place .ensures) _ (omega arith) (found .with-row .ensures) (clear .if1 .left) in
     (known .0, (known .1, known .2))
 
 returns-2 : tie.Need-returns-2
@@ -37,7 +37,7 @@ returns-2 c =
     let found : tie.After-with-row = search in
     let is = examined .examine .ensures in
     let clear : tie.Else1 = search in
-    yes-told _ _ _ (is .0) (is .1 .1) (placed .with-place .ensures) (found .with-row .ensures) (clear .if1 .left) (c .before .is-valid .ensures) (c .if2 .taken)
+    yes-told _ _ _ (is .0) (is .1 .1) _ (omega arith) (placed .with-place .ensures) _ (omega arith) (found .with-row .ensures) (clear .if1 .left) (c .before .is-valid .ensures) (c .if2 .taken)
 
 returns-3 : tie.Need-returns-3
 returns-3 c =
@@ -46,7 +46,7 @@ returns-3 c =
     let found : tie.After-with-row = search in
     let is = examined .examine .ensures in
     let clear : tie.Else1 = search in
-    no-told _ _ _ (is .0) (is .1 .1) (placed .with-place .ensures) (found .with-row .ensures) (clear .if1 .left) (c .before .is-valid .ensures) (c .if2 .left)
+    no-told _ _ _ (is .0) (is .1 .1) _ (omega arith) (placed .with-place .ensures) _ (omega arith) (found .with-row .ensures) (clear .if1 .left) (c .before .is-valid .ensures) (c .if2 .left)
 
 pub check-flow-spec : {M : Type 1} → statement M
 check-flow-spec =

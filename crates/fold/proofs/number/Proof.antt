@@ -6,7 +6,7 @@ use Rattle.fold.proofs.number.Statement.{statement}
 use Rattle.fold.proofs.number.Tie as tie
 
 returns : tie.Need-returns
-returns c = numbered _ _ _ _ (omega arith)
+returns c = numbered _ _ _ _ _ (omega arith) (omega arith)
 
 pub number-spec : {M : Type 1} → statement M
 number-spec =
