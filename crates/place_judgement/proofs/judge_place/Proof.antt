@@ -29,7 +29,7 @@ add-with-row c =
     omega (arith, few .pairs, few .events)
 
 returns : tie.Need-returns
-returns c = refused _ _ _ _ _ (told (search)) (c .if1 .taken)
+returns c = refused _ _ _ _ _ (told (search)) (search)
 
 judge-known-requires : tie.Need-judge-known-requires
 judge-known-requires c κs =
@@ -45,14 +45,14 @@ returns-2 c =
     let known : tie.After-judge-known = search in
     let is = known .judge-known .ensures in
     let else : tie.Else1 = search in
-    runs-told _ _ _ _ _ (told (search)) (else .if1 .left) _ _ _ (is .0) (is .1 .0) (is .1 .1) (c .if2 .taken)
+    runs-told _ _ _ _ _ (told (search)) (else .if1 .left) _ _ _ (is .0) (is .1 .0) (is .1 .1) (search)
 
 returns-3 : tie.Need-returns-3
 returns-3 c =
     let known : tie.After-judge-known = search in
     let is = known .judge-known .ensures in
     let else : tie.Else1 = search in
-    short-told _ _ _ _ _ (told (search)) (else .if1 .left) _ _ _ (is .0) (is .1 .0) (is .1 .1) (c .if2 .left)
+    short-told _ _ _ _ _ (told (search)) (else .if1 .left) _ _ _ (is .0) (is .1 .0) (is .1 .1) (search)
 
 pub judge-place-spec : {M : Type 1} → statement M
 judge-place-spec =
