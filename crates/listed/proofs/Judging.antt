@@ -19,7 +19,7 @@ use Rattle.search.specs.Row.{members}
 use Rattle.summary.specs.declared.Verdict.{Verdict}
 use Rattle.summary.specs.declared.Verdict.the-variants.{Runs, Short}
 use Rattle.summary.specs.Summary.{totalMissing, shortPlaces, verdictOf, verdictNumber, countAt, MissingCounts}
-use Rattle.summary.specs.Laws.{Says, verdict-says, verdict-fits, total-agrees, short-agrees, verdict-agrees}
+use Rattle.summary.specs.Laws.{VerdictSays, verdict-says, verdict-fits, total-agrees, short-agrees, verdict-agrees}
 use Rattle.plan_judgement.specs.declared.First.{First}
 use Rattle.plan_judgement.specs.declared.Totals.{Totals}
 use Rattle.plan_judgement.specs.First.{FirstTo}
@@ -61,7 +61,7 @@ most-missing s known p l =
     )
 
 -- the last line, from the done set of the first short place
-last-by : (s : List ℕ) (f : First) (v : Verdict) → FirstTo s (placesOf s) f → Says (missingAt s) (placesOf s) v
+last-by : (s : List ℕ) (f : First) (v : Verdict) → FirstTo s (placesOf s) f → VerdictSays (missingAt s) (placesOf s) v
     → verdictLine (netOf s) (planOf s) v ≡ lastLine v (eventsOf s) (members (f .done))
 unfolding verdictLine lastLine
 last-by s f Runs first says = refl

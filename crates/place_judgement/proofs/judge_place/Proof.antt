@@ -4,7 +4,7 @@ use mathlib.Core.Path.{sym, subst, _∙_}
 use denote.Ref.{now}
 use borrow.Author.Needs.{needs}
 use Rattle.calls.specs.Refusal.{FaultTold, sheet-told}
-use Rattle.layout.specs.Layout.{Within}
+use Rattle.layout.specs.Layout.{WithinLimits}
 use Rattle.place_judgement.specs.Judgement.{judgeFault}
 use Rattle.place_judgement.proofs.Answers.{fault-told, refused, taken, known, laid, place, room, runs-told, short-told}
 use Rattle.place_judgement.proofs.judge_place.Statement.{statement}
@@ -25,7 +25,7 @@ add-with-row : tie.Need-add-with-row
 add-with-row c =
     let seen : tie.After-examine = search in
     let placed : tie.After-with-place = search in
-    let few = subst Within (sym (placed .with-place .ensures .layout)) (seen .examine .ensures .1 .0) in
+    let few = subst WithinLimits (sym (placed .with-place .ensures .layout)) (seen .examine .ensures .1 .0) in
     omega (arith, few .pairs, few .events)
 
 returns : tie.Need-returns
