@@ -13,7 +13,7 @@ use Rattle.calls.specs.Overwritten.{overwritten, over-first, at-none}
 use Rattle.ids.specs.declared.Place.{Place}
 use Rattle.place.specs.Place.{missingAt}
 use Rattle.summary.specs.declared.Verdict.the-variants.{Short}
-use Rattle.summary.specs.Laws.{Says, verdict-says}
+use Rattle.summary.specs.Laws.{VerdictSays, verdict-says}
 use Rattle.place_judgement.specs.Judgement.{missingIn, judgeFault, judgementOf, judgement-missing}
 use Rattle.plan_judgement.specs.declared.Totals.{Totals}
 use Rattle.plan_judgement.specs.declared.Answer.{Answer}
@@ -60,7 +60,7 @@ module _ (s : List ℕ) where
   unfolding answerOf totalsOf
   verdict-is p m row totals judged short =
       let e = ap (λ (t : Totals). t .verdict) (judged-is (planFault s row) (totalsOf s) totals judged) ∙ short in
-      subst (Says (missingAt s) (placesOf s)) e (verdict-says (missingAt s) (placesOf s)) .2
+      subst (VerdictSays (missingAt s) (placesOf s)) e (verdict-says (missingAt s) (placesOf s)) .2
 
   -- Each count is the missing count of the definition.
   pub count-is : (p m : ℕ) → Returned s p m → m ≡ missing (netOf s) (planOf s) p

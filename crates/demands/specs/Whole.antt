@@ -19,7 +19,7 @@ use Rattle.place.specs.Place.{missingAt}
 use Rattle.summary.specs.declared.Verdict.{Verdict}
 use Rattle.summary.specs.declared.Verdict.the-variants.{Runs, Short}
 use Rattle.summary.specs.Summary.{verdictOf}
-use Rattle.summary.specs.Laws.{Says, verdict-says, verdict-runs}
+use Rattle.summary.specs.Laws.{VerdictSays, verdict-says, verdict-runs}
 use Rattle.plan_judgement.specs.declared.Answer.{Answer}
 use Rattle.plan_judgement.specs.declared.Answer.the-variants.{Fault, Judged}
 use Rattle.plan_judgement.specs.Judgement.{planFault, totalsOf, answer, answerOf}
@@ -67,14 +67,14 @@ module _ (s : List ℕ) (taken : faultOf s ≡ 0) where
 
   short-first : (p m : ℕ) → told ≡ Short (record { 0 = p }) m → FirstShort s p
   short-first p m e =
-      let says = subst (Says (missingAt s) (placesOf s)) e (verdict-says (missingAt s) (placesOf s)) in
+      let says = subst (VerdictSays (missingAt s) (placesOf s)) e (verdict-says (missingAt s) (placesOf s)) in
       record {
         place = says .0;
         here = λ x. omega (arith, says .1, says .2, at-place p .0 x);
         before = λ q l. at-place q .1 (says .3 q l);
       }
 
-  first-short : (p : ℕ) (v : Verdict) → Says (missingAt s) (placesOf s) v → FirstShort s p → (m : ℕ) × (v ≡ Short (record { 0 = p }) m)
+  first-short : (p : ℕ) (v : Verdict) → VerdictSays (missingAt s) (placesOf s) v → FirstShort s p → (m : ℕ) × (v ≡ Short (record { 0 = p }) m)
   first-short p Runs says f = absurd (f .here (at-place p .1 (says p (f .place))))
   first-short p (Short q m) says f =
       let same : q .0 ≡ p =

@@ -3,7 +3,7 @@ ghost use mathlib.Core.Path.{_≡_};
 ghost use Rattle.ids.specs.Lent.{is};
 ghost use Rattle.sheet.specs.Items.{planOf};
 ghost use Rattle.sheet.specs.Faults.{contentFaults, firstFault, faultOf};
-ghost use Rattle.layout.specs.Layout.{LayoutOf, LaidBy, Within};
+ghost use Rattle.layout.specs.Layout.{LayoutOf, LaidBy, WithinLimits};
 ghost use Rattle.order.specs.Rows.{Blank, OrderRows};
 use ids::ROWS;
 use items::no_event;
@@ -55,7 +55,7 @@ fn content_fault(s: &[u8], l: Layout, succ: &mut [u32; ROWS], pred: &mut [u32; R
 pub fn examine(s: &[u8], succ: &mut [u32; ROWS], pred: &mut [u32; ROWS]) -> Examined
     requires { ⌜ Blank (now succ) × Blank (now pred) ⌝ }
     ensures { λ r. ⌜ r .fault ≡ faultOf (now (s .entry)) ⌝ }
-    ensures { λ r. ⌜ Within (r .layout) ⌝ }
+    ensures { λ r. ⌜ WithinLimits (r .layout) ⌝ }
     ensures { λ r. ⌜ (r .fault ≡ 0 → LayoutOf (now (s .entry)) (r .layout) × OrderRows (planOf (now (s .entry))) (is succ) (is pred)) ⌝ }
 {
     let k = layout_fault(s);

@@ -11,7 +11,7 @@ use Rattle.plan.specs.Flow.{valid}
 use Rattle.sheet.specs.Items.{netOf, planOf}
 use Rattle.sheet.specs.Faults.{faultOf}
 use Rattle.sheet.specs.Faultless.{Faultless, faultless}
-use Rattle.layout.specs.Layout.{LayoutOf, Within}
+use Rattle.layout.specs.Layout.{LayoutOf, WithinLimits}
 use Rattle.layout.specs.declared.Layout.{Layout}
 use Rattle.order.specs.Rows.{OrderRows}
 use Rattle.fault.specs.declared.Examined.{Examined}
@@ -22,7 +22,7 @@ use Rattle.flowcheck.specs.declared.Checked.the-variants.{Fault, Valid, 
 use Rattle.flowcheck.specs.Checked.{answer, checkedOf}
 
 -- the numbers of a flow row can be counted
-pub counted : {e r : Examined} {found : Bool} {k : ℕ} → Within (e .layout) → Next e found k r → r .layout .pairs + r .layout .events ≤ mostFlow
+pub counted : {e r : Examined} {found : Bool} {k : ℕ} → WithinLimits (e .layout) → Next e found k r → r .layout .pairs + r .layout .events ≤ mostFlow
 counted few next =
     omega (arith, ap (λ (l : Layout). l .pairs) (next .layout), ap (λ (l : Layout). l .events) (next .layout), few .pairs, few .events)
 

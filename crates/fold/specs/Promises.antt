@@ -20,8 +20,8 @@ use Rattle.fold.specs.Written.{numbersOf}
 abbrev pub MayStep : Held → Held → ℕ → ℕ → Type 0
 MayStep succ skel u cur = (P : Plan) × (index : List ℕ) × Walkable P (now succ) (now skel) index × Before P u cur
 
-abbrev pub Stepped : Lent → Lent → ℕ → ℕ → ℕ → Type 0
-Stepped succ skel u cur v =
+abbrev pub SteppedBack : Lent → Lent → ℕ → ℕ → ℕ → Type 0
+SteppedBack succ skel u cur v =
     (P : Plan) (index : List ℕ) → Walkable P (was succ) (was skel) index → Before P u cur → StepBack P index u cur v
 
 -- k tokens carried from u to w

@@ -12,7 +12,7 @@ ghost use Rattle.sheet.specs.Faultless.{Faultless};
 ghost use Rattle.layout.specs.Layout.{LayoutOf};
 ghost use Rattle.order.specs.Rows.{Blank, OrderRows};
 ghost use Rattle.fold.specs.Linked.{numberOf, Numbered, Linked};
-ghost use Rattle.fold.specs.Promises.{MayStep, Stepped, MayTrace, Traced, Spacious, MayFold, AllFolded, MayFoldGiver, GiverFolded};
+ghost use Rattle.fold.specs.Promises.{MayStep, SteppedBack, MayTrace, Traced, Spacious, MayFold, AllFolded, MayFoldGiver, GiverFolded};
 ghost use Rattle.fold.specs.Written.{raisedBy, Zeros, SharesWritten, SharesFrom};
 use closure::is_skeleton;
 use ids::EVENTS;
@@ -65,7 +65,7 @@ fn step_back(succ: &[u32; ROWS], skel: &[u32; ROWS], u: Event, cur: Event) -> Ev
     requires { ⌜ (u .0 < mostEvents) × (cur .0 < mostEvents) ⌝ }
     requires { ⌜ MayStep succ skel (u .0) (cur .0) ⌝ }
     ensures { λ v. ⌜ v .0 < mostEvents ⌝ }
-    ensures { λ v. ⌜ Stepped succ skel (u .0) (cur .0) (v .0) ⌝ }
+    ensures { λ v. ⌜ SteppedBack succ skel (u .0) (cur .0) (v .0) ⌝ }
 {
     if is_marked(skel, cur.0, u.0) {
         return u;

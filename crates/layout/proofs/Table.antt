@@ -15,7 +15,7 @@ use Rattle.numbers.specs.Number.{number}
 use Rattle.sheet.specs.Table.{tableLength, start, count, limit, itemLength, item, bodyEnd, due}
 use Rattle.sheet.specs.Faults.{tooShort, overLimitAt, overLimit, misplacedAt, misplaced, wrongEnd, layoutFaults, firstFault}
 use Rattle.sheet.specs.Laid.{Limited, longestSheet, starts, weights-most}
-use Rattle.layout.specs.Layout.{placesAt, transitionsAt, eventsAt, pairsAt, LayoutOf, Within}
+use Rattle.layout.specs.Layout.{placesAt, transitionsAt, eventsAt, pairsAt, LayoutOf, WithinLimits}
 use Rattle.layout.specs.declared.Layout.{Layout}
 
 -- the numbers of an entry, where the code reads them
@@ -32,10 +32,10 @@ unfolding tooShort
 short-is s = refl
 
 -- how far all items of the transitions reach
-pub weights-fit : (l : Layout) → Within l → 4 * l .places * l .transitions ≤ 4 * mostPlaces * mostTransitions
+pub weights-fit : (l : Layout) → WithinLimits l → 4 * l .places * l .transitions ≤ 4 * mostPlaces * mostTransitions
 weights-fit l within = mul-le-mul {n₁ = 4 * l .places} {n₂ = 4 * mostPlaces} (omega arith) (within .transitions)
 
-pub events-near : (l : Layout) → Within l → placesAt l ≡ tableLength → transitionsAt l ≡ placesAt l + 4 * l .places
+pub events-near : (l : Layout) → WithinLimits l → placesAt l ≡ tableLength → transitionsAt l ≡ placesAt l + 4 * l .places
     → eventsAt l ≡ transitionsAt l + 4 * l .places * l .transitions → eventsAt l ≤ longestSheet
 events-near l within a b c = omega (arith, weights-fit l within)
 

@@ -37,11 +37,11 @@ abbrev pub LaidBy : List ℕ → Layout → Type 0
 LaidBy s l = Laid s × LayoutOf s l
 
 -- The counts are such as a sheet may have, so that they can be added up.
-pub record Within (l : Layout) : Type 0 where
+pub record WithinLimits (l : Layout) : Type 0 where
   pub places : l .places ≤ mostPlaces
   pub transitions : l .transitions ≤ mostTransitions
   pub events : l .events ≤ mostEvents
   pub pairs : l .pairs ≤ mostPairs
 
-pub within : (s : List ℕ) (l : Layout) → Limited s → LayoutOf s l → Within l
+pub within : (s : List ℕ) (l : Layout) → Limited s → LayoutOf s l → WithinLimits l
 within s l known is = record { places = omega arith; transitions = omega arith; events = omega arith; pairs = omega arith }

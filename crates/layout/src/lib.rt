@@ -7,7 +7,7 @@ ghost use lib.ListN.{length};
 ghost use Rattle.sheet.specs.Table.{tableLength, start, count};
 ghost use Rattle.sheet.specs.Faults.{tooShort, overLimit, misplaced, wrongEnd, layoutFaults, firstFault};
 ghost use Rattle.sheet.specs.Laid.{longestSheet};
-ghost use Rattle.layout.specs.Layout.{pairsAt, LayoutOf, Within};
+ghost use Rattle.layout.specs.Layout.{pairsAt, LayoutOf, WithinLimits};
 use ids::EVENTS;
 use ids::PAIRS;
 use ids::PLACES;
@@ -64,7 +64,7 @@ pub fn layout_of(s: &[u8]) -> Layout
 
 // A layout with no items, for a sheet that has none.
 pub fn no_layout() -> Layout
-    ensures { λ r. ⌜ Within r ⌝ }
+    ensures { λ r. ⌜ WithinLimits r ⌝ }
 {
     Layout {
         places: 0,
@@ -103,7 +103,7 @@ fn over_limit(l: Layout) -> bool
 
 // 3: a body's start isn't the end of what precedes it.
 fn misplaced_body(l: Layout) -> bool
-    requires { ⌜ Within l ⌝ }
+    requires { ⌜ WithinLimits l ⌝ }
     ensures { λ r. ⌜ ((s : List ℕ) → LayoutOf s l → r ≡ misplaced s) ⌝ }
 {
     if l.places_at != TABLE {
@@ -121,7 +121,7 @@ fn misplaced_body(l: Layout) -> bool
 // 4: the sheet doesn't end with its last body.
 fn wrong_end(s: &[u8], l: Layout) -> bool
     requires { ⌜ LayoutOf (now s) l ⌝ }
-    requires { ⌜ Within l × (pairsAt l ≤ longestSheet) ⌝ }
+    requires { ⌜ WithinLimits l × (pairsAt l ≤ longestSheet) ⌝ }
     ensures { λ r. ⌜ r ≡ wrongEnd (now (s .entry)) ⌝ }
 {
     s.len() != l.pairs_at + 4 * l.pairs

@@ -4,12 +4,9 @@ use native.Mathlib.Omega.{arith}
 use mathlib.Core.List.{List, _++_}
 use mathlib.Core.Path.{_≡_, refl, sym, ap, subst, _∙_}
 use Rattle.finite.specs.Filled.{Filled}
-use Rattle.finite.specs.Sum.{sum-most}
-use Rattle.plan.specs.Net.{takenBy}
 use Rattle.plan.specs.Order.{freeCount}
-use Rattle.theory.specs.Missing.{missing-most}
 use Rattle.sheet.specs.Table.{placesOf, eventsOf, pairsOf}
-use Rattle.sheet.specs.Items.{netOf, planOf, labelAt}
+use Rattle.sheet.specs.Items.{netOf, planOf}
 use Rattle.sheet.specs.Faults.{faultOf}
 use Rattle.sheet.specs.Faultless.{Faultless, sound}
 use Rattle.layout.specs.declared.Layout.{Layout}
@@ -19,11 +16,12 @@ use Rattle.search.specs.Row.{members}
 use Rattle.summary.specs.declared.Verdict.{Verdict}
 use Rattle.summary.specs.declared.Verdict.the-variants.{Runs, Short}
 use Rattle.summary.specs.Summary.{totalMissing, shortPlaces, verdictOf, verdictNumber, countAt, MissingCounts}
-use Rattle.summary.specs.Laws.{Says, verdict-says, verdict-fits, total-agrees, short-agrees, verdict-agrees}
+use Rattle.summary.specs.Laws.{VerdictSays, verdict-says, verdict-fits}
 use Rattle.plan_judgement.specs.declared.First.{First}
 use Rattle.plan_judgement.specs.declared.Totals.{Totals}
 use Rattle.plan_judgement.specs.First.{FirstTo}
-use Rattle.plan_judgement.specs.Judgement.{totalsIn}
+use Rattle.plan_judgement.specs.CountsInRow.{small-counts, totals-agree}
+use Rattle.plan_judgement.specs.Judgement.{totalsIn, totalsOf}
 use Rattle.counts.specs.Free.{free-pairs}
 use Rattle.lines.specs.Listing.{planLine, totalsLine, each, lastLine, verdictLine, lineOf, countLines, linesOf, refusedLine, textOf, listingOf}
 use Rattle.lines.specs.MissingRow.{MissingRow}
@@ -50,18 +48,8 @@ pub few-places : (s : List ℕ) → Faultless s → (t : Totals) → Told s t �
 few-places s known t all =
     rw (all .verdict) (omega (arith, verdict-fits (missingAt s) (placesOf s), known .laid .limited .places))
 
--- What is missing at a place is no more than all events take.
-most-missing : (s : List ℕ) → Faultless s → (p : ℕ) → p < placesOf s → missingAt s p ≤ 256000
-most-missing s known p l =
-    omega (
-      arith,
-      missing-most (netOf s) (planOf s) p (sound s known),
-      sum-most (eventsOf s) 1000 (takenBy (netOf s) (planOf s) p) (λ v m. known .takes (labelAt s v) p (known .labels v m) l),
-      known .laid .limited .events,
-    )
-
 -- the last line, from the done set of the first short place
-last-by : (s : List ℕ) (f : First) (v : Verdict) → FirstTo s (placesOf s) f → Says (missingAt s) (placesOf s) v
+last-by : (s : List ℕ) (f : First) (v : Verdict) → FirstTo s (placesOf s) f → VerdictSays (missingAt s) (placesOf s) v
     → verdictLine (netOf s) (planOf s) v ≡ lastLine v (eventsOf s) (members (f .done))
 unfolding verdictLine lastLine
 last-by s f Runs first says = refl
@@ -90,18 +78,16 @@ module _ (s : List ℕ) (known : Faultless s) (l : Layout) (is : LayoutOf s l) w
 
     -- they are small enough to be added up
     pub small : MissingCounts new (l .places)
-    small =
-        record {
-          few = omega (arith, is .places, known .laid .limited .places);
-          most = λ p m. omega (arith, counted .numbers p m, most-missing s known p (omega (arith, is .places)));
-        }
+    small = small-counts s known (l .places) (is .places) old new counted
 
     pub told : (t : Totals) → t ≡ totalsIn (countAt new) (l .places) → Told s t
+    unfolding totalsOf
     told t e =
+        let all = e ∙ totals-agree s known (l .places) (is .places) old new counted in
         record {
-          total = ap (λ (t : Totals). t .total) e ∙ total-agrees (countAt new) (missingAt s) (l .places) (counted .numbers) ∙ ap (totalMissing (missingAt s)) (is .places);
-          short = ap (λ (t : Totals). t .short) e ∙ short-agrees (countAt new) (missingAt s) (l .places) (counted .numbers) ∙ ap (shortPlaces (missingAt s)) (is .places);
-          verdict = ap (λ (t : Totals). t .verdict) e ∙ verdict-agrees (countAt new) (missingAt s) (l .places) (counted .numbers) ∙ ap (verdictOf (missingAt s)) (is .places);
+          total = ap (λ (t : Totals). t .total) all;
+          short = ap (λ (t : Totals). t .short) all;
+          verdict = ap (λ (t : Totals). t .verdict) all;
         }
 
   -- the lines, from those that tell counts and the last one

@@ -16,11 +16,10 @@ use Rattle.calls.specs.Refusal.{FaultTold, Next, row-link}
 use Rattle.calls.specs.Overwritten.{overwritten, filled-is, at-fault, at-none}
 use Rattle.place.specs.Place.{missingAt}
 use Rattle.summary.specs.Summary.{countAt, MissingCounts}
-use Rattle.summary.specs.Laws.{total-agrees, short-agrees, verdict-agrees}
 use Rattle.plan_judgement.specs.declared.Totals.{Totals}
 use Rattle.plan_judgement.specs.declared.Answer.the-variants.{Fault, Judged}
 use Rattle.plan_judgement.specs.Judgement.{planFault, totalsIn, totalsOf, answer, answerOf, rowOf}
-use Rattle.plan_judgement.proofs.Bounds.{most-missing}
+use Rattle.plan_judgement.specs.CountsInRow.{small-counts, totals-agree}
 
 -- the fault of the call, by its two links
 pub fault-told : (s row : List ℕ) (seen e : Examined) → FaultTold s (faultOf s) seen → Next seen (ltb (length row) (seen .layout .places)) 13 e
@@ -66,25 +65,10 @@ module _ (s row : List ℕ) (e : Examined) (told : FaultTold s (planFault s row)
 
       -- they are small enough to be added up
       pub counts : MissingCounts new places
-      counts =
-          record {
-            few = omega (arith, is, known .laid .limited .places);
-            most = λ p l. omega (arith, counted .numbers p l, most-missing s known p (omega (arith, is)));
-          }
+      counts = small-counts s known places is row new counted
 
       pub in-row : places ≤ length new
       in-row = omega (arith, counted .size, long)
-
-      totals-agree : totalsIn (countAt new) places ≡ totalsOf s
-      unfolding totalsOf
-      totals-agree =
-          (λ i.
-          record {
-            total = total-agrees (countAt new) (missingAt s) places (counted .numbers) i;
-            short = short-agrees (countAt new) (missingAt s) places (counted .numbers) i;
-            verdict = verdict-agrees (countAt new) (missingAt s) places (counted .numbers) i;
-          })
-          ∙ ap (totalsIn (missingAt s)) is
 
       row-filled : new ≡ overwritten (missingAt s) (placesOf s) row
       row-filled =
@@ -93,6 +77,6 @@ module _ (s row : List ℕ) (e : Examined) (told : FaultTold s (planFault s row)
       pub judged : (t : Totals) → t ≡ totalsIn (countAt new) places → (Judged t ≡ answerOf s row) × (new ≡ rowOf s row)
       unfolding answerOf answer rowOf
       judged t is-sum = (
-        ap Judged (is-sum ∙ totals-agree) ∙ sym (ap (λ (k : ℕ). answer k (totalsOf s)) clear),
+        ap Judged (is-sum ∙ totals-agree s known places is row new counted) ∙ sym (ap (λ (k : ℕ). answer k (totalsOf s)) clear),
         row-filled ∙ at-none (planFault s row) (overwritten (missingAt s) (placesOf s) row) row clear,
       )

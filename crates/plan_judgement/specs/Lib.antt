@@ -1,3 +1,4 @@
 pub mod Judgement
 pub mod First
+pub mod CountsInRow
 pub mod Laws

@@ -1,4 +1,4 @@
--- The number that the till server gets is that of the plan judgement's answer for a row of 64 numbers.
+-- The number that the till server gets is that of the plan judgement's answer for a row with a number for each place that a sheet may have.
 use Prim.Native.Nat.{ℕ, zero, suc, _≤_}
 use native.Mathlib.Nat.{eq-zero-or-pos}
 use native.Mathlib.Omega.{arith}
@@ -6,6 +6,7 @@ use mathlib.Core.List.{List}
 use mathlib.Core.Logic.{⊎-elim}
 use mathlib.Core.Path.{_≡_, refl, sym, ap, _∙_}
 use lib.ListN.{length}
+use Rattle.ids.specs.Limits.{mostPlaces}
 use Rattle.sheet.specs.Table.{placesOf}
 use Rattle.sheet.specs.Faults.{faultOf}
 use Rattle.sheet.specs.Faultless.{faultless}
@@ -21,7 +22,7 @@ unfolding answer unlessRefused
 case-number zero totals = refl
 case-number (suc k) totals = refl
 
-module _ (s row : List ℕ) (long : 64 ≤ length row) where
+module _ (s row : List ℕ) (long : mostPlaces ≤ length row) where
   -- fault 13 can't arise
   fault-is : planFault s row ≡ faultOf s
   unfolding planFault

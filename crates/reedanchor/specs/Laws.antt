@@ -19,7 +19,7 @@ use Rattle.summary.specs.Summary.{verdictOf, verdictNumber}
 use Rattle.summary.specs.Laws.{verdict-fits}
 use Rattle.plan_judgement.specs.Judgement.{totalsOf}
 use Rattle.plan_judgement.specs.Laws.{runs-told}
-use Rattle.reedanchor.specs.Till.{unlessRefused, tillAnswer}
+use Rattle.reedanchor.specs.Till.{unlessRefused, tillAnswer, answersBelow}
 
 case-refused : (k : ℕ) (v : Verdict) → ¬ (k ≡ 0) → unlessRefused k v ≡ k
 unfolding unlessRefused
@@ -65,7 +65,7 @@ module _ (s : List ℕ) where
   by-fault : {X : Type 0} → (faultOf s ≡ 0 → X) → (0 < faultOf s → X) → X
   by-fault taken refused = ⊎-elim taken refused (eq-zero-or-pos (faultOf s))
 
-  pub till-fits : tillAnswer s < 1064
+  pub till-fits : tillAnswer s < answersBelow
   till-fits =
       by-fault
       (λ none. omega (arith, till-taken none, verdict-fits (missingAt s) (placesOf s), faultless s none .laid .limited .places))

@@ -2,14 +2,15 @@
 ghost use Prim.Native.Nat.{_<_};
 ghost use mathlib.Core.Path.{_≡_};
 ghost use Rattle.summary.specs.Summary.{verdictNumber};
-ghost use Rattle.reedanchor.specs.Till.{answerNumber, tillAnswer};
+ghost use Rattle.reedanchor.specs.Till.{answersBelow, answerNumber, tillAnswer};
+use ids::PLACES;
 use plan_judgement::Answer;
 use plan_judgement::judge_plan;
 use summary::Verdict;
 
 // 0 for a plan that runs, or 1,000 plus the number of the first short place.
 fn verdict_number(v: Verdict) -> u32
-    requires { ⌜ verdictNumber v < 1064 ⌝ }
+    requires { ⌜ verdictNumber v < answersBelow ⌝ }
     ensures { λ r. ⌜ r ≡ verdictNumber v ⌝ }
 {
     match v {
@@ -20,7 +21,7 @@ fn verdict_number(v: Verdict) -> u32
 
 // The number of a fault, else of the verdict.
 fn answer_number(a: Answer) -> u32
-    requires { ⌜ answerNumber a < 1064 ⌝ }
+    requires { ⌜ answerNumber a < answersBelow ⌝ }
     ensures { λ r. ⌜ r ≡ answerNumber a ⌝ }
 {
     match a {
@@ -32,12 +33,12 @@ fn answer_number(a: Answer) -> u32
     }
 }
 
-// The till server's call. The row of 64 numbers that it lends is never too short, so fault 13 doesn't arise.
+// The till server's call. The row that it lends has a number for each place that a sheet may have, so fault 13 doesn't arise.
 #[no_mangle]
 pub extern "C" fn reedanchor_judge(sheet: &[u8]) -> u32
     ensures { λ r. ⌜ r ≡ tillAnswer (now (sheet .entry)) ⌝ }
 {
-    let mut row = [0u32; 64];
+    let mut row = [0u32; PLACES];
     let a = judge_plan(sheet, &mut row);
     answer_number(a)
 }

@@ -11,11 +11,11 @@ use Rattle.finite.specs.Subset.{insert}
 use Rattle.search.specs.Row.{members, In, Empty}
 use Rattle.search.specs.Trail.{_!_}
 use Rattle.search.specs.Searched.{Listed}
-use Rattle.search.specs.Steps.{Put, Joined}
+use Rattle.search.specs.Steps.{Stored, Joined}
 use Rattle.search.proofs.Gain.{gained, gain-cases, gain-keeps, gain-has}
 
 -- what lies before the end stays
-pub kept : {old new : List ℕ} {end x : ℕ} → Put old new end x → (i : ℕ) → i < end → new ! i ≡ old ! i
+pub kept : {old new : List ℕ} {end x : ℕ} → Stored old new end x → (i : ℕ) → i < end → new ! i ≡ old ! i
 kept p i l = p .others i (λ e. omega arith)
 
 -- the places below end + 1 are end and those below it
@@ -78,5 +78,5 @@ listed-more {row} {new} {queue} {queue′} {tail} {x} j fresh q =
           (q .listed i (omega arith))));
     }
 
-pub stored : (xs : List ℕ) (at x : ℕ) → at < length xs → Put xs (set xs at x) at x
+pub stored : (xs : List ℕ) (at x : ℕ) → at < length xs → Stored xs (set xs at x) at x
 stored xs at x fits = record { here = getD-set-same xs at x 0 fits; others = λ i other. getD-set-other xs at i x 0 other }

@@ -10,7 +10,7 @@ use Rattle.marks.specs.Marks.{marked}
 use Rattle.search.specs.Row.{In, Empty}
 use Rattle.search.specs.Exhausted.{Narrow}
 use Rattle.search.specs.Trail.{_!_, Takers, Givers, takersOf, giversOf, FedBy, MetBy, Trail}
-use Rattle.search.specs.Steps.{Put, Joined, Seeded}
+use Rattle.search.specs.Steps.{Stored, Joined, Seeded}
 use Rattle.search.proofs.Gain.{gain-cases, gain-keeps}
 use Rattle.search.proofs.Queue.{kept, below-next}
 
@@ -55,7 +55,7 @@ module _ {pred fed share : List ℕ} {n : ℕ} {t : Takers} {g : Givers} (r : Tr
 
   -- the giver u feeds the taker x
   pub trail-taker : {u x : ℕ} {row queue origin : List ℕ} → Narrow pred fed n → Joined (t .row) row x (t .queue) queue (t .tail) x
-      → Put (t .origin) origin (t .tail) u → In (g .row) u → g .via ! u < t .tail → T (marked fed u x)
+      → Stored (t .origin) origin (t .tail) u → In (g .row) u → g .via ! u < t .tail → T (marked fed u x)
       → Trail pred fed share n (takersOf row queue origin (t .tail + 1)) g
   trail-taker {u} {x} {row} {queue} {origin} narrow j p giver early feeds =
       record {

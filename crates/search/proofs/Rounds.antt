@@ -12,7 +12,7 @@ use Rattle.search.specs.Row.{members, In, Empty, AllIn, in-marked, marke
 use Rattle.search.specs.Exhausted.{Narrow}
 use Rattle.search.specs.Trail.{_!_, Takers, Givers, takersOf, giversOf, Trail}
 use Rattle.search.specs.Searched.{Listed, Searched}
-use Rattle.search.specs.Steps.{Put, Joined, Seeded, Longer, Following, Onward, Visiting}
+use Rattle.search.specs.Steps.{Stored, Joined, Seeded, Longer, Following, Onward, Visiting}
 use Rattle.search.proofs.Gain.{gain-cases, gain-keeps, gain-has}
 use Rattle.search.proofs.Queue.{kept, below-next, none-listed, listed-more}
 use Rattle.search.proofs.Reasons.{trail-start, trail-taker, trail-giver, taker-below, giver-below}
@@ -83,7 +83,7 @@ pub unlisted : {rows row : List ℕ} {i x : ℕ} → Only rows i row 0 x → In 
 unlisted {row = row} {x = x} o h = o .second (in-marked row x h)
 
 pub follow-more : {fed : List ℕ} {u : ℕ} {t s : Takers} {x : ℕ} {row queue origin : List ℕ} → Following fed u t s
-    → Only fed u (s .row) 0 x → Joined (s .row) row x (s .queue) queue (s .tail) x → Put (s .origin) origin (s .tail) u
+    → Only fed u (s .row) 0 x → Joined (s .row) row x (s .queue) queue (s .tail) x → Stored (s .origin) origin (s .tail) u
     → Following fed u t (takersOf row queue origin (s .tail + 1))
 follow-more {s = s} f o j p =
     record {

@@ -9,16 +9,16 @@ use Rattle.search.specs.Exhausted.{Narrow}
 use Rattle.search.specs.Trail.{_!_, Takers, Givers, Trail}
 use Rattle.search.specs.Searched.{Listed}
 
--- The number x is put at a place of a list. Other places stay.
-pub record Put (old new : List ℕ) (at x : ℕ) : Type 0 where
+-- The number x is stored at a place of a list. Other places stay.
+pub record Stored (old new : List ℕ) (at x : ℕ) : Type 0 where
   pub here : new ! at ≡ x
   pub others : (i : ℕ) → ¬ (i ≡ at) → new ! i ≡ old ! i
 
--- The event v joins a set, and the number x is put at a place of the list that goes with it.
+-- The event v joins a set, and the number x is stored at a place of the list that goes with it.
 pub record Joined (row row′ : List ℕ) (v : ℕ) (list list′ : List ℕ) (at x : ℕ) : Type 0 where
   pub event : v < mostEvents
   pub mark : MarkAdded row row′ 0 v
-  pub put : Put list list′ at x
+  pub put : Stored list list′ at x
 
 -- The takers below k that have a share are listed.
 pub record Seeded (share : List ℕ) (k : ℕ) (row queue : List ℕ) (tail : ℕ) : Type 0 where

@@ -13,11 +13,11 @@ ghost use Rattle.search.specs.Row.{Empty, AllIn};
 ghost use Rattle.search.specs.Exhausted.{Narrow};
 ghost use Rattle.search.specs.Trail.{_!_, giversAre, giversWere, takersAre, takersWere};
 ghost use Rattle.search.specs.Searched.{Listed, Searched};
-ghost use Rattle.search.specs.Steps.{Put, Joined, Seeded, Following, Visiting};
+ghost use Rattle.search.specs.Steps.{Stored, Joined, Seeded, Following, Visiting};
 
 fn put(list: &mut [usize], at: usize, v: Event)
     requires { ⌜ at < length (now list) ⌝ }
-    ensures { λ _. ⌜ Put (was list) (is list) at (v .0) ⌝ }
+    ensures { λ _. ⌜ Stored (was list) (is list) at (v .0) ⌝ }
 {
     list[at] = v.0;
 }
@@ -25,7 +25,7 @@ fn put(list: &mut [usize], at: usize, v: Event)
 // Notes the place of the queue by way of which the giver `u` is met.
 fn note(via: &mut [usize], u: Event, head: usize)
     requires { ⌜ u .0 < length (now via) ⌝ }
-    ensures { λ _. ⌜ Put (was via) (is via) (u .0) head ⌝ }
+    ensures { λ _. ⌜ Stored (was via) (is via) (u .0) head ⌝ }
 {
     let i = u.0;
     via[i] = head;

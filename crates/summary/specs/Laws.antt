@@ -14,34 +14,34 @@ use Rattle.summary.specs.declared.Verdict.the-variants.{Runs, Short}
 use Rattle.summary.specs.Summary.{totalMissing, shortPlaces, decides, verdictOf, verdictNumber}
 
 -- Nothing is missing at any place; or it is at a place of the n, by the count told, and at no place before it.
-abbrev pub Says : (ℕ → ℕ) → ℕ → Verdict → Type 0
-Says missing n Runs = (p : ℕ) → p < n → missing p ≡ 0
-Says missing n (Short q m) = (q .0 < n) × (0 < m) × (missing (q .0) ≡ m) × ((p : ℕ) → p < q .0 → missing p ≡ 0)
+abbrev pub VerdictSays : (ℕ → ℕ) → ℕ → Verdict → Type 0
+VerdictSays missing n Runs = (p : ℕ) → p < n → missing p ≡ 0
+VerdictSays missing n (Short q m) = (q .0 < n) × (0 < m) × (missing (q .0) ≡ m) × ((p : ℕ) → p < q .0 → missing p ≡ 0)
 
 module _ (missing : ℕ → ℕ) where
-  decided : (n : ℕ) (v : Verdict) (b : Bool) → ltb 0 (missing n) ≡ b → Says missing n v → Says missing (suc n) (decides v b n (missing n))
+  decided : (n : ℕ) (v : Verdict) (b : Bool) → ltb 0 (missing n) ≡ b → VerdictSays missing n v → VerdictSays missing (suc n) (decides v b n (missing n))
   decided n Runs false e h =
       λ p l. below-suc n p l (h p) (λ same. let none = ltb-false 0 (missing n) e in omega (arith, ap missing same))
   decided n Runs true e h = (lt-suc-self n, ltb-true 0 (missing n) e, refl, h)
   decided n (Short q m) b e h = (le-step (h .0), h .1, h .2, h .3)
 
-  pub verdict-says : (n : ℕ) → Says missing n (verdictOf missing n)
+  pub verdict-says : (n : ℕ) → VerdictSays missing n (verdictOf missing n)
   unfolding verdictOf
   verdict-says zero = λ p l. absurd (not-suc-le-zero l)
   verdict-says (suc n) = decided n (verdictOf missing n) (ltb 0 (missing n)) refl (verdict-says n)
 
-  runs-when : (n : ℕ) (v : Verdict) → Says missing n v → ((p : ℕ) → p < n → missing p ≡ 0) → v ≡ Runs
+  runs-when : (n : ℕ) (v : Verdict) → VerdictSays missing n v → ((p : ℕ) → p < n → missing p ≡ 0) → v ≡ Runs
   runs-when n Runs h none = refl
   runs-when n (Short q m) h none = let some : ⊥ = omega (arith, h .1, h .2, none (q .0) (h .0)) in absurd some
 
   -- The verdict is Runs exactly if nothing is missing at any place.
   pub verdict-runs : (n : ℕ) → (verdictOf missing n ≡ Runs) ↔ ((p : ℕ) → p < n → missing p ≡ 0)
   verdict-runs n = (
-    λ e. subst (Says missing n) e (verdict-says n),
+    λ e. subst (VerdictSays missing n) e (verdict-says n),
     runs-when n (verdictOf missing n) (verdict-says n),
   )
 
-  number-fits : (n : ℕ) (v : Verdict) → Says missing n v → verdictNumber v < 1000 + n
+  number-fits : (n : ℕ) (v : Verdict) → VerdictSays missing n v → verdictNumber v < 1000 + n
   number-fits n Runs h = omega arith
   number-fits n (Short q m) h = omega (arith, h .0)
 

@@ -18,16 +18,16 @@ use Rattle.theory.specs.Skeleton.{before-later, before-earlier, last-lin
 use Rattle.theory.specs.Stage.{Stage, either}
 
 -- the test of a done set, without regard to what the pairs name
-pub record Closed (P : Plan) (D : Set) : Type 0 where
+pub record DownClosed (P : Plan) (D : Set) : Type 0 where
   pub closed : (u v : ℕ) → u < P .events → v < P .events → Before P u v → T (D v) → T (D u)
 
 module _ (P : Plan) (D : Set) where
-  pub prefix-closed : T (prefix P D) → Closed P D
+  pub prefix-closed : T (prefix P D) → DownClosed P D
   unfolding prefix
   prefix-closed t =
       record { closed = λ u v lu lv b d. imp-yes (D v && before P u v) (D u) (all-yes (P .events) _ (all-yes (P .events) _ t v lv) u lu) (yes-and (D v) (before P u v) d (before-test P u v .1 b)) }
 
-  pub closed-prefix : Closed P D → T (prefix P D)
+  pub closed-prefix : DownClosed P D → T (prefix P D)
   unfolding prefix
   closed-prefix c =
       yes-all (P .events) _ (λ v lv. yes-all (P .events) _ (λ u lu. yes-imp (D v && before P u v) (D u) (into u v lu lv)))

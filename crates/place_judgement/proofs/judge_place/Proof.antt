@@ -4,7 +4,7 @@ use mathlib.Core.Path.{sym, subst, _∙_}
 use denote.Ref.{now}
 use borrow.Author.Needs.{needs}
 use Rattle.calls.specs.Refusal.{FaultTold, sheet-told}
-use Rattle.layout.specs.Layout.{Within}
+use Rattle.layout.specs.Layout.{WithinLimits}
 use Rattle.place_judgement.specs.Judgement.{judgeFault}
 use Rattle.place_judgement.proofs.Answers.{fault-told, refused, taken, known, laid, place, room, runs-told, short-told}
 use Rattle.place_judgement.proofs.judge_place.Statement.{statement}
@@ -25,11 +25,11 @@ add-with-row : tie.Need-add-with-row
 add-with-row c =
     let seen : tie.After-examine = search in
     let placed : tie.After-with-place = search in
-    let few = subst Within (sym (placed .with-place .ensures .layout)) (seen .examine .ensures .1 .0) in
+    let few = subst WithinLimits (sym (placed .with-place .ensures .layout)) (seen .examine .ensures .1 .0) in
     omega (arith, few .pairs, few .events)
 
 returns : tie.Need-returns
-returns c = refused _ _ _ _ _ (told (search)) (c .if1 .taken)
+returns c = refused _ _ _ _ _ (told (search)) (search)
 
 judge-known-requires : tie.Need-judge-known-requires
 judge-known-requires c κs =
@@ -45,14 +45,14 @@ returns-2 c =
     let known : tie.After-judge-known = search in
     let is = known .judge-known .ensures in
     let else : tie.Else1 = search in
-    runs-told _ _ _ _ _ (told (search)) (else .if1 .left) _ _ _ (is .0) (is .1 .0) (is .1 .1) (c .if2 .taken)
+    runs-told _ _ _ _ _ (told (search)) (else .if1 .left) _ _ _ (is .0) (is .1 .0) (is .1 .1) (search)
 
 returns-3 : tie.Need-returns-3
 returns-3 c =
     let known : tie.After-judge-known = search in
     let is = known .judge-known .ensures in
     let else : tie.Else1 = search in
-    short-told _ _ _ _ _ (told (search)) (else .if1 .left) _ _ _ (is .0) (is .1 .0) (is .1 .1) (c .if2 .left)
+    short-told _ _ _ _ _ (told (search)) (else .if1 .left) _ _ _ (is .0) (is .1 .0) (is .1 .1) (search)
 
 pub judge-place-spec : {M : Type 1} → statement M
 judge-place-spec =

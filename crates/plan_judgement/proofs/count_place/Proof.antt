@@ -12,16 +12,14 @@ returns c =
     let counted : tie.After-missing-count = search in
     let s : tie.Start = search in
     let judged = counted .missing-count .ensures .1 in
-    let then : tie.Then1 = search in
-    (ap (set (s .args .row .now) (s .args .p .0)) (judged .count), first-kept _ _ _ (s .pre .1 .1 .1 .1 .1) (then .if1 .taken))
+    (ap (set (s .args .row .now) (s .args .p .0)) (judged .count), first-kept _ _ _ (s .pre .1 .1 .1 .1 .1) (search))
 
 returns-2 : tie.Need-returns-2
 returns-2 c =
     let counted : tie.After-missing-count = search in
     let s : tie.Start = search in
     let judged = counted .missing-count .ensures .1 in
-    let else : tie.Else1 = search in
-    (ap (set (s .args .row .now) (s .args .p .0)) (judged .count), first-here _ _ _ (s .pre .1 .1 .1 .1 .1) (else .if1 .left) _ _ (judged .count) refl (judged .set))
+    (ap (set (s .args .row .now) (s .args .p .0)) (judged .count), first-here _ _ _ (s .pre .1 .1 .1 .1 .1) (search) _ _ (judged .count) refl (judged .set))
 
 pub count-place-spec : {M : Type 1} → statement M
 count-place-spec =

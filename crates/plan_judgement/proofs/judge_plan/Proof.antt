@@ -19,7 +19,7 @@ told c =
     fault-told _ _ _ _ (sheet-told _ _ (seen .examine .ensures .0) (seen .examine .ensures .1 .1)) (c .with-row .ensures)
 
 returns : tie.Need-returns
-returns c = refused _ _ _ (told (search)) (c .if1 .taken)
+returns c = refused _ _ _ (told (search)) (search)
 
 count-missing-requires : tie.Need-count-missing-requires
 count-missing-requires c κs =

@@ -1,4 +1,4 @@
--- `reedanchor::answer_number` meets its contract.
+-- `reedanchor::answer_number` rests on what the match tells of the answer, of which the limit on its number is known.
 use native.Mathlib.Omega.{arith}
 use mathlib.Core.Path.{ap}
 use Rattle.reedanchor.specs.Till.{answerNumber}
@@ -6,21 +6,15 @@ use borrow.Author.Needs.{needs}
 use Rattle.reedanchor.proofs.answer_number.Statement.{statement}
 use Rattle.reedanchor.proofs.answer_number.Tie as tie
 
-enum-known-a : tie.Need-enum-known-a
-enum-known-a c = search needs
-
-enum-known-a-2 : tie.Need-enum-known-a-2
-enum-known-a-2 c = search needs
-
 verdict-number-requires : tie.Need-verdict-number-requires
-verdict-number-requires c κs = omega (arith, ap answerNumber (c .before .a2 .given .1), c .before .before .before .pre)
-
-returns : tie.Need-returns
-returns c = search needs
-
-returns-2 : tie.Need-returns-2
-returns-2 c = search needs
+verdict-number-requires c κs = let judged : tie.After-a2 = search in omega (arith, ap answerNumber (judged .a2 .given .1))
 
 pub answer-number-spec : {M : Type 1} → statement M
 answer-number-spec =
-    tie.close (tie.spec enum-known-a enum-known-a-2 verdict-number-requires returns returns-2)
+    tie.close
+    (tie.spec
+    (λ c. search needs)
+    (λ c. search needs)
+    verdict-number-requires
+    (λ c. search needs)
+    (λ c. search needs))

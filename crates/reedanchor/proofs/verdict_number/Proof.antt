@@ -1,33 +1,27 @@
--- `reedanchor::verdict_number` meets its contract.
-use Prim.Native.Nat.{_+_}
+-- `reedanchor::verdict_number` rests on what the match tells of the verdict, with whose number the code's sum is compared.
 use native.Mathlib.Omega.{arith}
-use mathlib.Core.Path.{_≡_, sym, ap}
+use mathlib.Core.Path.{_≡_, ap}
 use Rattle.summary.specs.Summary.{verdictNumber}
 use borrow.Author.Needs.{needs}
 use Rattle.reedanchor.proofs.verdict_number.Statement.{statement}
 use Rattle.reedanchor.proofs.verdict_number.Tie as tie
 
-enum-told : tie.Need-enum-told
-enum-told c = search needs
-
-enum-known-v : tie.Need-enum-known-v
-enum-known-v c = search needs
-
-short : (c : tie.After-struct-known) → 1000 + c .before .before .v .given .0 .0 .0 ≡ verdictNumber (c .before .before .before .before .args .v)
-short c = sym (ap verdictNumber (c .before .before .v .given .1))
-
 cast-result : tie.Need-cast-result
-cast-result c = omega (arith, short c, c .before .before .before .before .pre)
+cast-result c = let short : tie.After-v = search in omega (arith, ap verdictNumber (short .v .given .1))
 
 add-result : tie.Need-add-result
-add-result c = omega (arith, short c, c .before .before .before .before .pre)
-
-returns : tie.Need-returns
-returns c = search needs
+add-result c = let short : tie.After-v = search in omega (arith, ap verdictNumber (short .v .given .1))
 
 returns-2 : tie.Need-returns-2
-returns-2 c = short c
+returns-2 c = let short : tie.After-v = search in omega (arith, ap verdictNumber (short .v .given .1))
 
 pub verdict-number-spec : {M : Type 1} → statement M
 verdict-number-spec =
-    tie.close (tie.spec enum-told enum-known-v cast-result add-result returns returns-2)
+    tie.close
+    (tie.spec
+    (λ c. search needs)
+    (λ c. search needs)
+    cast-result
+    add-result
+    (λ c. search needs)
+    returns-2)
