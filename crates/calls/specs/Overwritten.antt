@@ -44,7 +44,11 @@ filled-is f k old new h =
     new
     (overwritten f k old)
     (h .size ∙ sym (over-size f k old))
-    (λ i l. ⊎-elim (λ t. let low = ltb→lt i k t in h .numbers i low ∙ sym (over-first f k old i low (omega (arith, h .size)))) (λ t. let high = nltb→le i k t in h .rest i high ∙ sym (over-rest f k old i high)) (decide (ltb i k)))
+    (λ i l.
+    ⊎-elim
+    (λ t. let low = ltb→lt i k t in h .numbers i low ∙ sym (over-first f k old i low (omega (arith, h .size))))
+    (λ t. let high = nltb→le i k t in h .rest i high ∙ sym (over-rest f k old i high))
+    (decide (ltb i k)))
 
 -- A faulty call changes no lent row: what a row is at return, by the call's fault and by what a call without one would make of it.
 unfoldable pub unlessFault : ℕ → List ℕ → List ℕ → List ℕ

@@ -121,7 +121,9 @@ module _ (s : List ℕ) (p : ℕ) (flow marks : List ℕ) (none : judgeFault s p
         same
         D
         (doneIn (eventsOf s) (marksAfter s p flow marks) v)
-        (λ t. let l = smallest-known .prefixed .events v t in yes-and (ltb v (eventsOf s)) (eqb mark 1) (yes-ltb {a = v} {b = eventsOf s} l) (subst (λ (m : ℕ). T (eqb m 1)) (sym (mark-is v l)) (one-is D .1 t)))
+        (λ t.
+        let l = smallest-known .prefixed .events v t in
+        yes-and (ltb v (eventsOf s)) (eqb mark 1) (yes-ltb {a = v} {b = eventsOf s} l) (subst (λ (m : ℕ). T (eqb m 1)) (sym (mark-is v l)) (one-is D .1 t)))
         (λ t.
         let h = and-yes (ltb v (eventsOf s)) (eqb mark 1) t in
         one-is D .0 (subst (λ (m : ℕ). T (eqb m 1)) (mark-is v (ltb→lt v (eventsOf s) (h .0))) (h .1)))

@@ -65,6 +65,7 @@ module _ {n : ℕ} {pred : List ℕ} {r m : Rows} {u w v k : ℕ} (f : Flowing n
       freed-now : 0 < getD (r′ .free) v 0
       freed-now =
           ⊎-elim
-          (λ t. omega (arith, back .spent .less v, d .spent .less v, on-yes (eqb v v) k (yes-eqb {a = v} {b = v} refl), on-le (eqb u v) k, ap (λ (z : ℕ). getD (r .free) z 0) (eqb→eq u v t), most))
+          (λ t.
+          omega (arith, back .spent .less v, d .spent .less v, on-yes (eqb v v) k (yes-eqb {a = v} {b = v} refl), on-le (eqb u v) k, ap (λ (z : ℕ). getD (r .free) z 0) (eqb→eq u v t), most))
           (λ t. omega (arith, back .spent .less v, d .spent .less v, on-yes (eqb v v) k (yes-eqb {a = v} {b = v} refl), on-no (eqb u v) k (T-not (eqb u v) t), some))
           (decide (eqb u v))

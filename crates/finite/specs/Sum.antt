@@ -129,7 +129,8 @@ pub over-ends : (n m : ℕ) (S : ℕ → Bool) (e x : ℕ → ℕ) → ((i : ℕ
 unfolding over atEnd sum
 over-ends n zero S e x h = sum-zero n (λ v. on (S v) 0) (λ v l. on-zero (S v))
 over-ends n (suc m) S e x h =
-    sum-ext n _ (λ v. on (S v) (atEnd m e x v) + on (eqb (e m) v) (on (S v) (x m))) (λ v l. on-add (S v) (atEnd m e x v) (on (eqb (e m) v) (x m)) ∙ ap (λ (y : ℕ). on (S v) (atEnd m e x v) + y) (on-swap (S v) (eqb (e m) v) (x m)))
+    sum-ext n _ (λ v. on (S v) (atEnd m e x v) + on (eqb (e m) v) (on (S v) (x m)))
+    (λ v l. on-add (S v) (atEnd m e x v) (on (eqb (e m) v) (x m)) ∙ ap (λ (y : ℕ). on (S v) (atEnd m e x v) + y) (on-swap (S v) (eqb (e m) v) (x m)))
     ∙ sum-add n (λ v. on (S v) (atEnd m e x v)) (λ v. on (eqb (e m) v) (on (S v) (x m)))
     ∙ ap₂ _+_ (over-ends n m S e x (λ i l. h i (le-step l))) (sum-one n (e m) (λ v. on (S v) (x m)) (h m (lt-suc-self m)))
 
@@ -218,10 +219,12 @@ unfolding atEnd
 end-more m e x v = sum-more m _
 
 -- k more at one index: for its end
-pub at-end-more : (m : ℕ) (e x z : ℕ → ℕ) (i k : ℕ) → i < m → ((j : ℕ) → j < m → z j ≡ x j + on (eqb i j) k) → (v : ℕ) → atEnd m e z v ≡ atEnd m e x v + on (eqb (e i) v) k
+pub at-end-more : (m : ℕ) (e x z : ℕ → ℕ) (i k : ℕ) → i < m → ((j : ℕ) → j < m → z j ≡ x j + on (eqb i j) k)
+    → (v : ℕ) → atEnd m e z v ≡ atEnd m e x v + on (eqb (e i) v) k
 unfolding atEnd
 at-end-more m e x z i k l more v =
-    sum-ext m _ (λ j. on (eqb (e j) v) (x j) + on (eqb i j) (on (eqb (e j) v) k)) (λ j h. ap (on (eqb (e j) v)) (more j h) ∙ on-add (eqb (e j) v) (x j) (on (eqb i j) k) ∙ ap (λ (n : ℕ). on (eqb (e j) v) (x j) + n) (on-swap (eqb (e j) v) (eqb i j) k))
+    sum-ext m _ (λ j. on (eqb (e j) v) (x j) + on (eqb i j) (on (eqb (e j) v) k))
+    (λ j h. ap (on (eqb (e j) v)) (more j h) ∙ on-add (eqb (e j) v) (x j) (on (eqb i j) k) ∙ ap (λ (n : ℕ). on (eqb (e j) v) (x j) + n) (on-swap (eqb (e j) v) (eqb i j) k))
     ∙ sum-add m (λ j. on (eqb (e j) v) (x j)) (λ j. on (eqb i j) (on (eqb (e j) v) k))
     ∙ ap (λ (n : ℕ). sum m (λ j. on (eqb (e j) v) (x j)) + n) (sum-one m i (λ j. on (eqb (e j) v) k) l)
 

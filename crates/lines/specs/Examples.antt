@@ -10,7 +10,9 @@ use Rattle.plan.specs.Order.{before, beforeBy, paired, freeCount}
 use Rattle.plan.specs.Prefix.{prefix, front, tokens, lack, missing, smallest, endCount}
 use Rattle.sheet.specs.Table.{start, count, limit, itemLength, item, bodyEnd, due}
 use Rattle.sheet.specs.Items.{openingAt, takesAt, givesAt, labelAt, earlierAt, laterAt}
-use Rattle.sheet.specs.Faults.{tooShort, overLimitAt, overLimit, misplacedAt, misplaced, wrongEnd, overOpeningAt, overOpening, overWeightAt, overWeightIn, overWeight, noTransitionAt, noTransition, noEventAt, noEvent, selfPairAt, selfPair, samePair, repeatAt, repeated, cycleAt, cyclic, layoutFaults, itemFaults, orderFaults, contentFaults, faults, firstFault, faultOf}
+use Rattle.sheet.specs.Faults.{tooShort, overLimitAt, overLimit, misplacedAt, misplaced, wrongEnd, overOpeningAt, overOpening, overWeightAt, overWeightIn, overWeight}
+use Rattle.sheet.specs.Faults.{noTransitionAt, noTransition, noEventAt, noEvent, selfPairAt, selfPair, samePair, repeatAt, repeated, cycleAt, cyclic}
+use Rattle.sheet.specs.Faults.{layoutFaults, itemFaults, orderFaults, contentFaults, faults, firstFault, faultOf}
 use Rattle.summary.specs.Summary.{totalMissing, shortPlaces, verdictOf}
 use Rattle.text.specs.Words.{word, digits, decimal, signed}
 use Rattle.lines.specs.Listing.{planLine, placeLine, totalsLine, each, doneEvents, firstLine, runsLine, verdictLine, lineOf, countLines, linesOf, refusedLine, textOf, listingOf}
@@ -27,9 +29,16 @@ sheet a b c later =
     ++ (0 ∷ 0 ∷ 0 ∷ 0 ∷ 1 ∷ 0 ∷ 0 ∷ 0 ∷ later ∷ 0 ∷ [])
 
 pub examples :
-    (listingOf (sheet 1 0 0 2) ≡ word "plan events 3 pairs 1 free 2\nplace 0 open 1 end -1 missing 1\nplace 1 open 0 end 1 missing 0\nplace 2 open 0 end 1 missing 0\nshort 1 total 1\nfirst 0 done none\n")
-    × (listingOf (sheet 2 0 0 2) ≡ word "plan events 3 pairs 1 free 2\nplace 0 open 2 end 0 missing 0\nplace 1 open 0 end 1 missing 0\nplace 2 open 0 end 1 missing 0\nshort 0 total 0\nruns\n")
-    × (listingOf (sheet 1 0 0 1) ≡ word "plan events 3 pairs 1 free 2\nplace 0 open 1 end -1 missing 1\nplace 1 open 0 end 1 missing 1\nplace 2 open 0 end 1 missing 0\nshort 2 total 2\nfirst 0 done 0\n")
+    (listingOf (sheet 1 0 0 2)
+    ≡ word "plan events 3 pairs 1 free 2\nplace 0 open 1 end -1 missing 1\nplace 1 open 0 end 1 missing 0\nplace 2 open 0 end 1 missing 0\nshort 1 total 1\nfirst 0 done none\n")
+    × (listingOf (sheet 2 0 0 2)
+    ≡ word "plan events 3 pairs 1 free 2\nplace 0 open 2 end 0 missing 0\nplace 1 open 0 end 1 missing 0\nplace 2 open 0 end 1 missing 0\nshort 0 total 0\nruns\n")
+    × (listingOf (sheet 1 0 0 1)
+    ≡ word "plan events 3 pairs 1 free 2\nplace 0 open 1 end -1 missing 1\nplace 1 open 0 end 1 missing 1\nplace 2 open 0 end 1 missing 0\nshort 2 total 2\nfirst 0 done 0\n")
     × (listingOf [] ≡ word "refused 1\n")
-unfolding sheet word digits decimal signed planLine placeLine totalsLine each doneEvents firstLine runsLine verdictLine lineOf countLines linesOf refusedLine textOf listingOf number any all before beforeBy paired freeCount prefix front tokens lack missing smallest endCount greatest every sum over start count limit itemLength item bodyEnd due openingAt takesAt givesAt labelAt earlierAt laterAt tooShort overLimitAt overLimit misplacedAt misplaced wrongEnd overOpeningAt overOpening overWeightAt overWeightIn overWeight noTransitionAt noTransition noEventAt noEvent selfPairAt selfPair samePair repeatAt repeated cycleAt cyclic layoutFaults itemFaults orderFaults contentFaults faults firstFault faultOf totalMissing shortPlaces verdictOf
+unfolding sheet word digits decimal signed planLine placeLine totalsLine each doneEvents firstLine runsLine verdictLine lineOf countLines linesOf refusedLine textOf listingOf
+    number any all before beforeBy paired freeCount prefix front tokens lack missing smallest endCount greatest every sum over start count limit itemLength item bodyEnd due
+    openingAt takesAt givesAt labelAt earlierAt laterAt tooShort overLimitAt overLimit misplacedAt misplaced wrongEnd overOpeningAt overOpening overWeightAt overWeightIn overWeight noTransitionAt
+    noTransition noEventAt noEvent selfPairAt selfPair samePair repeatAt repeated cycleAt cyclic layoutFaults itemFaults orderFaults contentFaults faults firstFault faultOf
+    totalMissing shortPlaces verdictOf
 examples = (refl, refl, refl, refl)

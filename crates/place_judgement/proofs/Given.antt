@@ -72,7 +72,8 @@ module _ (N : Net) (P : Plan) (p : ℕ) (pred : List ℕ) (r : Rows) (givers : L
       let short : 0 < missing N P p = omega (arith, j .count, some) in
       filled-as (markOf givers) (doneMark N P p) n n marks marks′ refl (set-marked N P p (members givers) short (j .set short)) h
 
-module _ (s : List ℕ) (p : ℕ) (pred : List ℕ) (r : Rows) (givers : List ℕ) (m : ℕ) (j : Judged (netOf s) (planOf s) p pred r givers m) (l : Layout) (e : LayoutOf s l) (flow flow′ : List ℕ) where
+module _ (s : List ℕ) (p : ℕ) (pred : List ℕ) (r : Rows) (givers : List ℕ) (m : ℕ) (j : Judged (netOf s) (planOf s) p pred r givers m)
+    (l : Layout) (e : LayoutOf s l) (flow flow′ : List ℕ) where
   pub runs-flow : (share : List ℕ) → m ≡ 0 → T (valid (netOf s) (planOf s) p (flowOf flow′)) → SharesFrom (l .pairs) flow flow′ share (l .events) → Written s p flow flow′
   runs-flow share none right h =
       record {
@@ -92,7 +93,8 @@ module _ (s : List ℕ) (p : ℕ) (pred : List ℕ) (r : Rows) (givers : List �
       }
 
 -- The rows of a judged place can be folded onto the skeleton pairs, and where nothing is missing that makes a valid flow.
-module _ (s : List ℕ) (known : Faultless s) (p : ℕ) (l : Layout) (e : LayoutOf s l) (place : p < l .places) (pred amount fed share givers : List ℕ) (m : ℕ) (j : JudgedIn s p pred amount fed share givers m) where
+module _ (s : List ℕ) (known : Faultless s) (p : ℕ) (l : Layout) (e : LayoutOf s l) (place : p < l .places)
+    (pred amount fed share givers : List ℕ) (m : ℕ) (j : JudgedIn s p pred amount fed share givers m) where
   pub judged-foldable : (succ skel index : List ℕ) → OrderRows (planOf s) succ pred → Linked (planOf s) (pairsOf s) skel index
       → Foldable (planOf s) (l .events) succ skel index amount fed
   judged-foldable succ skel index order linked =

@@ -58,7 +58,8 @@ module _ (P : Plan) where
       ⊎-elim
       (λ old. sound k (le-of-lt h) u v old)
       (λ j.
-      let from : Before P u (P .later k) = ⊎-elim (λ e. subst (λ (w : ℕ). Before P w (P .later k)) (sym e) (pair k h)) (λ b. chain (sound k (le-of-lt h) u (P .earlier k) b) (pair k h)) (j .0) in
+      let from : Before P u (P .later k) =
+      ⊎-elim (λ e. subst (λ (w : ℕ). Before P w (P .later k)) (sym e) (pair k h)) (λ b. chain (sound k (le-of-lt h) u (P .earlier k) b) (pair k h)) (j .0) in
       ⊎-elim (λ e. subst (λ (w : ℕ). Before P u w) (sym e) from) (λ b. chain from (sound k (le-of-lt h) (P .later k) v b)) (j .1))
       (step-yes k u v t)
 

@@ -77,7 +77,8 @@ module _ {M : Type 1} (𝓤 : URA M) (H : Heap 𝓤) (A : Atoms 𝓤) (mem : Mem
   lost-of-is : lost_of.clauses 𝓤 H A mem run ≡ PlainClauses Faultless lostAt 𝓤
   lost-of-is = refl
 
-module _ (Needs : List ℕ → Type 0) (found : List ℕ → ℕ → ℕ) {M : Type 1} (𝓤 : URA M) (H : Heap 𝓤) (A : Atoms 𝓤) (W : Given 𝓤 H A) (mem : Memory → SProp 𝓤) (run : Routine → Fun 𝓤) where
+module _ (Needs : List ℕ → Type 0) (found : List ℕ → ℕ → ℕ) {M : Type 1} (𝓤 : URA M) (H : Heap 𝓤) (A : Atoms 𝓤) (W : Given 𝓤 H A)
+    (mem : Memory → SProp 𝓤) (run : Routine → Fun 𝓤) where
   -- the contracts that the walk cites
   abbrev pub Read : Contract 𝓤
   Read = tripleOf 𝓤 H A read.signature (read.spec 𝓤 H A mem run)
@@ -85,11 +86,13 @@ module _ (Needs : List ℕ → Type 0) (found : List ℕ → ℕ → ℕ) {M : T
   abbrev pub Lookup : Contract 𝓤
   Lookup = tripleOf 𝓤 H A lookup.signature (closing 𝓤 H A lookup.ended (LookupClauses Needs found 𝓤))
 
-  module _ (table : (s : List ℕ) → Needs s → tableLength ≤ length s) (𝓣 : Tables 𝓤 H) (made : Triple 𝓤 (𝓣 .C #read) Read) (callee : Name) (met : Triple 𝓤 (𝓣 .C callee) Lookup) where
+  module _ (table : (s : List ℕ) → Needs s → tableLength ≤ length s) (𝓣 : Tables 𝓤 H) (made : Triple 𝓤 (𝓣 .C #read) Read)
+      (callee : Name) (met : Triple 𝓤 (𝓣 .C callee) Lookup) where
     abbrev entry : Lft → Share → RefT (List ℕ) → Place → ending 𝓤 H A W any.ended (PlainClauses Needs found 𝓤) .Ghost
     entry κ q s p = (((κ, tt), (q, tt), tt, (s, (p, tt)), (bytes s ∷ [], (P′.lowered p ∷ [], tt))), tt)
 
-    walk : (κ : Lft) (q : Share) (s : RefT (List ℕ)) (p : Place) → Needs (now s) × (p .0 < placesOf (now s)) → Is (ShrSlice (named 0) κ u8) s (bytes s ∷ []) → Is P.the-row p (P′.lowered p ∷ [])
+    walk : (κ : Lft) (q : Share) (s : RefT (List ℕ)) (p : Place) → Needs (now s) × (p .0 < placesOf (now s))
+        → Is (ShrSlice (named 0) κ u8) s (bytes s ∷ []) → Is P.the-row p (P′.lowered p ∷ [])
         → ent 𝓤 (sep 𝓤 (sem 𝓤 H A (Lent κ s)) (alive 𝓤 H A any.signature (κ, tt) (q, tt)))
         (WpFn 𝓤 H (𝓣 .C) (𝓣 .Λ) (function callee) (bytes s ∷ P′.lowered p ∷ []) (ending 𝓤 H A W any.ended (PlainClauses Needs found 𝓤) .post (entry κ q s p)))
     walk κ q s p known is-s is-p =
@@ -99,11 +102,13 @@ module _ (Needs : List ℕ → Type 0) (found : List ℕ → ℕ → ℕ) {M : T
         alloc1 ! (λ l₀. alloc1 ! (λ l₁. alloc1 ! (λ l₂. alloc1 ! (λ l₃. alloc0 ! $ params1 ! $ pass1 ! (init ! 4 refl (shr-slice-lawful 𝓤 H A W (named 0) κ u8 .typed s _ is-s .0)) $
         pass1 ! (init ! 2 refl (LL.lawful P.the-type P′.the-laws 𝓤 H A W .typed p _ is-p .0)) $ pass0 ! $
         -- [the locals, the last first; what the sheet owns; the token]
-        move ! (8 ∷ 9 ∷ []) $ calls 𝓤 H A W read.ended (read.clauses 𝓤 H A mem run) (((κ, tt), (q, tt), tt, (s, tt), (bytes s ∷ [], tt)), tt) (λ r. r ≡ readerOf s) (λ r e. id⊢ 𝓤 _)
+        move ! (8 ∷ 9 ∷ []) $ calls 𝓤 H A W read.ended (read.clauses 𝓤 H A mem run) (((κ, tt), (q, tt), tt, (s, tt), (bytes s ∷ [], tt)), tt)
+        (λ r. r ≡ readerOf s) (λ r e. id⊢ 𝓤 _)
         (fmOf 𝓤 H (W .laws) 𝓣) made refl (id⊢ 𝓤 (emp 𝓤)) (one-fact 𝓤 (table (now s) (known .0))) (and-then ! (load ! (from ! (stop !)) (look ! 5 refl)) (no-more !)) (λ u r h is.
         -- [what the reader owns; the token; the locals, the last first]
         land ! (from ! (stop !)) (init ! 2 refl (LL.lawful (T.the-type α) (T′.the-laws α) 𝓤 H A W .typed r _ is .0)) $
-        calls 𝓤 H A W lookup.ended (LookupClauses Needs found 𝓤) (((κ, tt), (q, tt), tt, (r, (p, tt)), (u ∷ [], (P′.lowered p ∷ [], tt))), tt) (λ n. n ≡ found (now (r .sheet)) (p .0)) (λ n e. id⊢ 𝓤 _)
+        calls 𝓤 H A W lookup.ended (LookupClauses Needs found 𝓤) (((κ, tt), (q, tt), tt, (r, (p, tt)), (u ∷ [], (P′.lowered p ∷ [], tt))), tt)
+        (λ n. n ≡ found (now (r .sheet)) (p .0)) (λ n e. id⊢ 𝓤 _)
         (fmOf 𝓤 H (W .laws) 𝓣) met refl (place-owned 𝓤 H A W p is-p) (one-fact 𝓤 (subst (λ (x : Reader). Asks Needs x p) (sym h) (known .0, reads s, known .1)))
         (and-then ! (load ! (from ! (stop !)) (look ! 1 refl)) (and-then ! (load ! (from ! (stop !)) (look ! 3 refl)) (no-more !))) (λ w n h′ is′.
         -- [the result; the token; the locals, the last first]

@@ -78,7 +78,9 @@ pub begins : {M : Type 1} (𝓤 : URA M) (H : Heap 𝓤) (A : Atoms 𝓤) (S : S
 begins 𝓤 H A S κs qs a vss {φ} {P} {R} {Q} e k =
     let t : SProp 𝓤 = alive 𝓤 H A S κs qs in
     subst (λ (F : Fml). ent 𝓤 (sep 𝓤 (sep 𝓤 t (sem 𝓤 H A F)) (fact 𝓤 φ)) Q) (sym e)
-    (needs 𝓤 φ (sep 𝓤 t (sem 𝓤 H A (fsep P R))) (λ x. via 𝓤 (sep 𝓤 t (sem 𝓤 H A P)) (monoR 𝓤 t (fst∗ 𝓤 (sem 𝓤 H A P) (sem 𝓤 H A R))) (via 𝓤 (sep 𝓤 (sem 𝓤 H A P) t) (comm∗ 𝓤 t (sem 𝓤 H A P)) (k x))))
+    (needs 𝓤 φ (sep 𝓤 t (sem 𝓤 H A (fsep P R))) (λ x.
+    via 𝓤 (sep 𝓤 t (sem 𝓤 H A P)) (monoR 𝓤 t (fst∗ 𝓤 (sem 𝓤 H A P) (sem 𝓤 H A R)))
+    (via 𝓤 (sep 𝓤 (sem 𝓤 H A P) t) (comm∗ 𝓤 t (sem 𝓤 H A P)) (k x))))
 
 module _ {M : Type 1} (𝓤 : URA M) (H : Heap 𝓤) (A : Atoms 𝓤) (W : Given 𝓤 H A) (T : Ended) (c : Clauses 𝓤 T) where
   abbrev pub ending : Contract 𝓤
@@ -140,7 +142,8 @@ module _ {M : Type 1} (𝓤 : URA M) (H : Heap 𝓤) (A : Atoms 𝓤) (W : Given
       said r = exE 𝓤 _ (λ ws. via 𝓤 _ (snd∗ 𝓤 (sem 𝓤 H A (lasts T (y .0 .0) (y .0 .3) ws)) _) (says r (atExit T (y .0 .0) (y .0 .3) ws)))
 
       pub calls : {C : Calls 𝓤 H} {Λ : Loops 𝓤 H} {E : Env 𝓤 H} {q : Post 𝓤 H} {f : Name} {xs : List Operand} {d : Place} {next : Body} {Γ : List (Item 𝓤)} {P R : Fml}
-          → FmC 𝓤 H (W .laws) C → Triple 𝓤 (C f) Callee → Owned ≡ fsep P R → ent 𝓤 (emp 𝓤) (sem 𝓤 H A R) → ent 𝓤 (emp 𝓤) Asks → Opds (Go {0}) W (raw (Callee .pre y) ∷ Γ) E xs (Callee .args y)
+          → FmC 𝓤 H (W .laws) C → Triple 𝓤 (C f) Callee → Owned ≡ fsep P R → ent 𝓤 (emp 𝓤) (sem 𝓤 H A R) → ent 𝓤 (emp 𝓤) Asks
+          → Opds (Go {0}) W (raw (Callee .pre y) ∷ Γ) E xs (Callee .args y)
           → ((v : Val) (r : Row .Denot) → φ r → Is Row r (v ∷ []) → Sq W (‵ (Row .own r (v ∷ [])) ∷ raw Tokens ∷ Γ) (lands C Λ E d v next q))
           → Sq W (‵ P ∷ raw Tokens ∷ Γ) (runs C Λ E (seq (call f xs d) next) q)
       calls fm met e rest facts os k =

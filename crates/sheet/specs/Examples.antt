@@ -119,5 +119,10 @@ right (x ∷ xs) = eqb (x .0) (x .1) && right xs
 
 -- every example comes out right
 pub examples-right : T (right examples)
-unfolding right examples put listing desk table number any before beforeBy start count limit itemLength item bodyEnd due openingAt takesAt givesAt labelAt earlierAt laterAt tooShort overLimitAt overLimit misplacedAt misplaced wrongEnd overOpeningAt overOpening overWeightAt overWeightIn overWeight noTransitionAt noTransition noEventAt noEvent selfPairAt selfPair samePair repeatAt repeated cycleAt cyclic layoutFaults itemFaults orderFaults contentFaults faults firstFault faultOf
+unfolding right examples put listing desk table
+    number any before beforeBy start count limit itemLength item bodyEnd due
+    openingAt takesAt givesAt labelAt earlierAt laterAt
+    tooShort overLimitAt overLimit misplacedAt misplaced wrongEnd overOpeningAt overOpening overWeightAt overWeightIn overWeight
+    noTransitionAt noTransition noEventAt noEvent selfPairAt selfPair samePair repeatAt repeated cycleAt cyclic
+    layoutFaults itemFaults orderFaults contentFaults faults firstFault faultOf
 examples-right = tt

@@ -84,6 +84,7 @@ room n =
 pub digit-put : (row : List ℕ) (at n b : ℕ) → n < 10 → b ≡ 48 + n → at < length row → Put row (set row at b) at (decimal n) (at + 1)
 digit-put row at n b low is l = rw (decimal-small n low, ← is) (put-byte row at b l)
 
-pub last-put : (old mid : List ℕ) (at n end b : ℕ) → 10 ≤ n → b ≡ 48 + n % 10 → end < length mid → Put old mid at (decimal (n / 10)) end → Put old (set mid end b) at (decimal n) (end + 1)
+pub last-put : (old mid : List ℕ) (at n end b : ℕ) → 10 ≤ n → b ≡ 48 + n % 10 → end < length mid → Put old mid at (decimal (n / 10)) end
+    → Put old (set mid end b) at (decimal n) (end + 1)
 last-put old mid at n end b high is l h =
     rw (decimal-large n high, ← is) (put-then h (put-byte mid end b l))

@@ -111,7 +111,8 @@ module _ (N : Net) (P : Plan) (p : ℕ) (M : Net) (Q : Plan) (q : ℕ) (s : Same
       Q
       q
       (leastOpening N P p)
-      (λ D w t. omega (arith, least-covers N P p D (record { below = λ v d. subst (λ (n : ℕ). v < n) (sym (s .events)) (w .below v d) }) (first-prefix order D t), first-takes order D, given-same D))
+      (λ D w t.
+      omega (arith, least-covers N P p D (record { below = λ v d. subst (λ (n : ℕ). v < n) (sym (s .events)) (w .below v d) }) (first-prefix order D t), first-takes order D, given-same D))
 
 -- With the same order it is the same, whatever the opening counts are.
 pub least-same : (N : Net) (P : Plan) (p : ℕ) (M : Net) (Q : Plan) (q : ℕ) → SameWeights N P p M Q q → ((u v : ℕ) → Before P u v ↔ Before Q u v)

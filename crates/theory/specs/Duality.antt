@@ -24,7 +24,8 @@ pub record Passes (N : Net) (P : Plan) (p : ℕ) (x : Flow) : Type 0 where
   pub kept : (v : ℕ) → v < P .events → outflow P x v + takenBy N P p v ≤ inflow P x v + givenBy N P p v
 
 module _ (N : Net) (P : Plan) (p : ℕ) (x : Flow) where
-  rule2-at : (v : ℕ) → T (leZ (pos (outflow P x v)) (pos (inflow P x v) -ℤ pos (takenBy N P p v) +ℤ pos (givenBy N P p v))) ↔ (outflow P x v + takenBy N P p v ≤ inflow P x v + givenBy N P p v)
+  rule2-at : (v : ℕ) → T (leZ (pos (outflow P x v)) (pos (inflow P x v) -ℤ pos (takenBy N P p v) +ℤ pos (givenBy N P p v)))
+      ↔ (outflow P x v + takenBy N P p v ≤ inflow P x v + givenBy N P p v)
   rule2-at v =
       subst
       (λ (z : ℤ). T (leZ (pos (outflow P x v)) z) ↔ (outflow P x v + takenBy N P p v ≤ inflow P x v + givenBy N P p v))

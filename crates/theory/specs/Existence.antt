@@ -168,7 +168,8 @@ module _ (n m : ℕ) (a b : ℕ → ℕ) (used : Set) (d : Demand) (M : ℕ) whe
     unbroken D U w z s h =
         f .fits D U w z (record {
           inside = s .inside;
-          into = λ i l t u. below-suc m i l (λ l₁. s .into i l₁ t u) (λ e. subst (λ (j : ℕ). T (D (a j))) (sym e) (h (subst (λ (j : ℕ). T (used j)) e t) (subst (λ (j : ℕ). T (U (b j))) e u)));
+          into = λ i l t u. below-suc m i l (λ l₁. s .into i l₁ t u)
+              (λ e. subst (λ (j : ℕ). T (D (a j))) (sym e) (h (subst (λ (j : ℕ). T (used j)) e t) (subst (λ (j : ℕ). T (U (b j))) e u)));
         })
 
     broken : (D U : Set) → Within n D → Within n U → Stage m a b used D U → T (U (b m)) → T (not (D (a m))) → left D U ≤ right D U + shortfall

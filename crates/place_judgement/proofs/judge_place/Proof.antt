@@ -14,7 +14,8 @@ abbrev entry : tie.After-with-row2 → tie.Start
 entry c = search
 
 -- the fault of the call
-told : (c : tie.After-with-row2) → FaultTold (now (entry c .args .s)) (judgeFault (now (entry c .args .s)) (entry c .args .p .0) (now (entry c .args .flow)) (now (entry c .args .marks))) (c .with-row2 .result)
+told : (c : tie.After-with-row2)
+    → FaultTold (now (entry c .args .s)) (judgeFault (now (entry c .args .s)) (entry c .args .p .0) (now (entry c .args .flow)) (now (entry c .args .marks))) (c .with-row2 .result)
 told c =
     let seen : tie.After-examine = search in
     let placed : tie.After-with-place = search in

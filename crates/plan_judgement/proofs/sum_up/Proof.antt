@@ -1,20 +1,14 @@
--- `plan_judgement::sum_up` meets its contract.
+-- `plan_judgement::sum_up` rests on what its three calls say of the counts in the row: the total, the number of short places and the verdict.
 use borrow.Author.Needs.{needs}
 use Rattle.plan_judgement.proofs.sum_up.Statement.{statement}
 use Rattle.plan_judgement.proofs.sum_up.Tie as tie
 
-total-missing-requires : tie.Need-total-missing-requires
-total-missing-requires c κs = search needs
-
-short-places-requires : tie.Need-short-places-requires
-short-places-requires c κs = search needs
-
-verdict-of-requires : tie.Need-verdict-of-requires
-verdict-of-requires c κs = search needs
-
 returns : tie.Need-returns
-returns c = λ i. record { total = c .before .before .total-missing .ensures i; short = c .before .short-places .ensures i; verdict = c .verdict-of .ensures i }
+returns c =
+    let totalled : tie.After-total-missing = search in
+    let counted : tie.After-short-places = search in
+    λ i. record { total = totalled .total-missing .ensures i; short = counted .short-places .ensures i; verdict = c .verdict-of .ensures i }
 
 pub sum-up-spec : {M : Type 1} → statement M
 sum-up-spec =
-    tie.close (tie.spec total-missing-requires short-places-requires verdict-of-requires returns)
+    tie.close (tie.spec (λ c κs. search needs) (λ c κs. search needs) (λ c κs. search needs) returns)

@@ -24,4 +24,5 @@ gained-of-spec 𝓤 H 𝓜 𝓖 𝓡 =
     entered 𝓤 H (tripleOf 𝓤 H (𝓖 .A) own.signature (own.spec 𝓤 H (𝓖 .A) (𝓜 .mem) (𝓡 .run))) (to .C) (to .Λ) #own code.function (code.unfolded 𝓤 H 𝓜 𝓡)
     (plain-meets Faultless gainedAt 𝓤 H (𝓖 .A) W (𝓜 .mem) (𝓡 .run) (λ s known. known .laid .limited .table) (tablesOf 𝓤 H 𝓜 to)
     (cited 𝓤 H (Read Faultless gainedAt 𝓤 H (𝓖 .A) W (𝓜 .mem) (𝓡 .run)) 𝓜 𝓡 code.env #read read-def.routine code.calls-reader·read (read-thm.met 𝓤 H 𝓜 𝓖 𝓡)) #callee
-    (cited 𝓤 H (Lookup Faultless gainedAt 𝓤 H (𝓖 .A) W (𝓜 .mem) (𝓡 .run)) 𝓜 𝓡 code.env #callee callee-def.routine code.calls-reader·gained (callee-thm.met 𝓤 H 𝓜 𝓖 𝓡)))
+    (cited 𝓤 H (Lookup Faultless gainedAt 𝓤 H (𝓖 .A) W (𝓜 .mem) (𝓡 .run)) 𝓜 𝓡 code.env #callee callee-def.routine
+    code.calls-reader·gained (callee-thm.met 𝓤 H 𝓜 𝓖 𝓡)))

@@ -88,10 +88,12 @@ module _ {M : Type 1} (𝓤 : URA M) (H : Heap 𝓤) (A : Atoms 𝓤) (W : Given
 
     walk : (κ : Lft) (q : Share) (s : RefT (List ℕ)) → tableLength ≤ length (now s) → Is (ShrSlice (named 0) κ u8) s (bytes s ∷ [])
         → ent 𝓤 (sep 𝓤 (sem 𝓤 H A (Lent κ s)) (alive 𝓤 H A own.signature (κ, tt) (q, tt)))
-        (WpFn 𝓤 H (𝓣 .C) (𝓣 .Λ) code.function (bytes s ∷ []) (ending 𝓤 H A W own.ended (own.clauses 𝓤 H A mem run) .post (((κ, tt), (q, tt), tt, (s, tt), (bytes s ∷ [], tt)), tt)))
+        (WpFn 𝓤 H (𝓣 .C) (𝓣 .Λ) code.function (bytes s ∷ [])
+        (ending 𝓤 H A W own.ended (own.clauses 𝓤 H A mem run) .post (((κ, tt), (q, tt), tt, (s, tt), (bytes s ∷ [], tt)), tt)))
     walk κ q s long is =
         let typed = shr-slice-lawful 𝓤 H A W (named 0) κ u8 .typed s _ is .0 in
-        qed W (‵ (Lent κ s) ∷ raw (alive 𝓤 H A own.signature (κ, tt) (q, tt)) ∷ []) ∵ use1 W (‵ (Lent κ s) ⊛ ‵ (Lent κ s)) (shr-slice-copy 𝓤 H A W (named 0) κ u8 .twice s (bytes s ∷ [])) $ split ! $
+        qed W (‵ (Lent κ s) ∷ raw (alive 𝓤 H A own.signature (κ, tt) (q, tt)) ∷ []) ∵ use1 W (‵ (Lent κ s) ⊛ ‵ (Lent κ s))
+        (shr-slice-copy 𝓤 H A W (named 0) κ u8 .twice s (bytes s ∷ [])) $ split ! $
         enter ! (𝓣 .C) (𝓣 .Λ) code.function (bytes s ∷ []) _ $ alloc1 ! (λ l₀. alloc1 ! (λ l₁. alloc1 ! (λ l₂. alloc0 ! $ params1 ! $ pass1 ! (init ! 2 refl typed) $ pass0 ! $
         -- [the locals, the last first; what the sheet owns, twice; the token]
         move ! (6 ∷ 8 ∷ []) $ calls 𝓤 H A W callee.ended (callee.clauses 𝓤 H A mem run) (((κ, tt), (q, tt), tt, (s, tt), (bytes s ∷ [], tt)), tt) (LayoutOf (now s)) (λ c e. id⊢ 𝓤 _)
