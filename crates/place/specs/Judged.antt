@@ -31,17 +31,18 @@ JudgedHere s p pred amount fed share givers m =
     JudgedIn (was s) (p .0) (was pred) (is amount) (is fed) (is share) (is givers) m
 
 -- A place that is settled with the opening count for what is enough is judged.
-pub judged : (s : List ℕ) (p opens : ℕ) (pred amount fed share givers : List ℕ) (lacks m : ℕ) → opens ≡ openingAt s p → SettledIn s p opens pred amount fed share givers lacks
-    → m ≡ lacks - opens → JudgedIn s p pred amount fed share givers m
-judged s p opens pred amount fed share givers lacks m opening settled is =
+pub judged : (s : List ℕ) (p enough : ℕ) (pred amount fed share givers : List ℕ) (lacks m : ℕ) → enough ≡ openingAt s p
+    → SettledIn s p enough pred amount fed share givers lacks → m ≡ lacks - openingAt s p → JudgedIn s p pred amount fed share givers m
+judged s p enough pred amount fed share givers lacks m opening settled is =
     let e = settled .1 in
-    let told = missing-told (netOf s) (planOf s) p opens pred (rows amount fed (settled .0) share) givers lacks e opening in (
+    let told = missing-told (netOf s) (planOf s) p enough pred (rows amount fed (settled .0) share) givers lacks e opening in
+    let above : m ≡ lacks - enough = omega (arith, is, opening) in (
       settled .0,
       record {
-        count = is ∙ told;
+        count = above ∙ told;
         lacks = omega (arith, is, e .sum, opening);
         flows = e .flows;
         flow = e .flow;
-        set = λ short. e .set (short-above (netOf s) (planOf s) p opens pred (rows amount fed (settled .0) share) givers lacks e opening short) short;
+        set = λ short. e .set (short-above (netOf s) (planOf s) p enough pred (rows amount fed (settled .0) share) givers lacks e opening short) short;
       },
     )

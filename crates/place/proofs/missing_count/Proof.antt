@@ -1,4 +1,5 @@
 -- `place::missing_count` meets its contract: settled with the opening count for what is enough, a place tells what is missing.
+use native.Mathlib.Omega.{arith}
 use borrow.Author.Needs.{needs}
 use Rattle.place.specs.Judged.{judged}
 use Rattle.place.proofs.missing_count.Statement.{statement}
@@ -8,7 +9,8 @@ returns : tie.Need-returns
 returns c =
     let settled : tie.After-settle-place = search in
     let opened : tie.After-opening = search in
-    judged _ _ _ _ _ _ _ _ _ _ (opened .opening .ensures) (settled .settle-place .ensures) (c .above .ensures)
+    let opens = opened .opening .ensures in
+    judged _ _ _ _ _ _ _ _ _ _ (omega (arith, opens)) (settled .settle-place .ensures) (omega (arith, opens, c .above .ensures))
 
 pub missing-count-spec : {M : Type 1} → statement M
 missing-count-spec =
