@@ -10,6 +10,7 @@ use lib.ListN.{getD}
 use Rattle.finite.specs.Bounded.{decide}
 use Rattle.finite.specs.Sum.{sum, sumOf, on-no}
 use Rattle.ids.specs.Lent.{Lent, was, is}
+use Rattle.ids.specs.Limits.{mostEvents}
 use Rattle.marks.specs.Marks.{marked}
 use Rattle.plan.specs.Net.{Net, Plan}
 use Rattle.plan.specs.Prefix.{leastOpening, missing, smallest}
@@ -77,7 +78,7 @@ module _ (N : Net) (P : Plan) (p n : ℕ) (pred : List ℕ) (r₀ r : Rows) (at 
   abbrev y : ℕ → ℕ → ℕ
   y u w = fedBy (r .amount) (r .fed) u w
 
-  near : (v : ℕ) → v < P .events → v < 256
+  near : (v : ℕ) → v < P .events → v < mostEvents
   near v l = omega (arith, at .events, at .few)
 
   here : (v : ℕ) → v < P .events → v < n
@@ -92,7 +93,7 @@ module _ (N : Net) (P : Plan) (p n : ℕ) (pred : List ℕ) (r₀ r : Rows) (at 
   is-fed u w l =
       ⊎-elim
       (λ t. t)
-      (λ t. absurd (omega (arith, on-no (marked (r .fed) u w) (getD (r .amount) (u * 256 + w) 0) (T-not (marked (r .fed) u w) t))))
+      (λ t. absurd (omega (arith, on-no (marked (r .fed) u w) (getD (r .amount) (u * mostEvents + w) 0) (T-not (marked (r .fed) u w) t))))
       (decide (marked (r .fed) u w))
 
   kept : Kept (P .events) r₀ r

@@ -3,16 +3,13 @@ use Prim.Native.Nat.{ℕ, zero, suc, _+_, _*_, _≤_, _<_}
 use native.Mathlib.Nat.{le-step, lt-suc-self, suc-ne-zero, mul-suc}
 use native.Mathlib.Numerals.{add-one}
 use native.Mathlib.Omega.{arith}
-use mathlib.Core.Bool.{Bool, true, false, cond, _&&_, _||_}
+use mathlib.Core.Bool.{Bool, true, false, cond, _||_}
 use mathlib.Core.List.{List, [], _∷_, _++_}
-use mathlib.Core.Path.{_≡_, refl, sym, ap, ap₂, _∙_}
-use borrow.Author.Tests.{lt-ltb}
+use mathlib.Core.Path.{_≡_, refl, sym, ap, ap₂}
 use lib.ListN.{length, length-append}
 use Rattle.finite.specs.Bounded.{any}
 use Rattle.finite.specs.Subset.{Set}
 use Rattle.finite.specs.Search.{search-none}
-use Rattle.marks.specs.Marks.{marked}
-use Rattle.search.specs.Row.{members}
 use Rattle.text.specs.Words.{word, decimal}
 use Rattle.text.specs.Put.{Put, put-none, put-then}
 use Rattle.lines.specs.Listing.{field, each, eventIn, doneEvents}
@@ -22,11 +19,6 @@ infixl 20 _then_
 pub _then_ : {old mid new : List ℕ} {at : ℕ} {text more : List ℕ} {between end : ℕ} → Put old mid at text between → Put mid new between more end
     → Put old new at (text ++ more) end
 _then_ first second = put-then first second
-
--- whether an event is of a set, by its mark
-pub told : (done : List ℕ) (v : ℕ) (r b : Bool) → r ≡ marked done 0 v → r ≡ b → v < 256 → members done v ≡ b
-unfolding members
-told done v r b is e few = ap (λ (x : Bool). x && marked done 0 v) (lt-ltb v 256 few) ∙ sym is ∙ e
 
 -- What a loop knows that has put the first i of n texts, each of at most `most` bytes.
 pub record Putting (old row : List ℕ) (at : ℕ) (f : ℕ → List ℕ) (most n i end : ℕ) : Type 0 where

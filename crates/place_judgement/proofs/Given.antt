@@ -21,7 +21,7 @@ use Rattle.marks.specs.Marks.{marked}
 use Rattle.layout.specs.declared.Layout.{Layout}
 use Rattle.tokenflow.specs.Rows.{Rows, rows, fedBy}
 use Rattle.tokenflow.specs.Flowing.{Flowing, lacking}
-use Rattle.search.specs.Row.{members}
+use Rattle.search.specs.Row.{members, member-told}
 use Rattle.calls.specs.FlowRow.{flowLength, flowOf}
 use Rattle.calls.specs.Overwritten.{overwritten, filled-is}
 use Rattle.place.specs.Judged.{Judged, JudgedIn}
@@ -34,10 +34,7 @@ use Rattle.place_judgement.specs.Handed.{doneMark, markOf, validAt, Writ
 
 -- the mark of v, by the test of it
 pub mark-is : (set : List ℕ) (v : ℕ) (b : Bool) {a : Bool} → v < mostEvents → a ≡ marked set 0 v → a ≡ b → cond {A = ℕ} b 1 0 ≡ markOf set v
-unfolding members
-mark-is set v b near test told =
-    let member : members set v ≡ marked set 0 v = simp (lt-ltb v 256 near) in
-    ap (λ (x : Bool). cond {A = ℕ} x 1 0) (sym told ∙ test ∙ sym member)
+mark-is set v b near test told = ap (λ (x : Bool). cond {A = ℕ} x 1 0) (sym (member-told set v b near test told))
 
 filled-as : (f g : ℕ → ℕ) (k l : ℕ) (old new : List ℕ) → k ≡ l → ((i : ℕ) → f i ≡ g i) → Filled f k old new → new ≡ overwritten g l old
 filled-as f g k l old new e same h =

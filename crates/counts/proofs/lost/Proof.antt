@@ -24,7 +24,7 @@ lost-spec =
     (tie.spec
     Inv-loop
     μ-loop
-    (λ c. (search needs, lost-start _ _, search needs))
+    (λ c. (search needs, search (needs, lost-start), search needs))
     (λ c κs. search needs)
     (λ c κs. search (needs, named))
     (λ c. omega (arith, weight c))

@@ -1,7 +1,7 @@
 -- `least::total` meets its contract. The invariant: the sum so far is that of the numbers below i, and at most 1,000 for each.
-use Prim.Native.Nat.{_-_, _*_, _≤_, zero-le}
+use Prim.Native.Nat.{_-_, _*_, _≤_}
 use native.Mathlib.Omega.{arith}
-use mathlib.Core.Path.{_≡_, sym}
+use mathlib.Core.Path.{_≡_}
 use borrow.Author.Needs.{needs}
 use Rattle.finite.specs.Sum.{sumOf, sum-of-start, sum-of-more}
 use Rattle.least.proofs.total.Statement.{statement}
@@ -38,7 +38,7 @@ total-spec =
     (tie.spec
     Inv-loop
     μ-loop
-    (λ c. (zero-le, sym (sum-of-start _), zero-le))
+    (λ c. let s : tie.Start Inv-loop μ-loop = search in (omega arith, omega (arith, sum-of-start (s .args .row .now)), omega arith))
     (λ c. search needs)
     (λ c. search needs)
     add-sum

@@ -6,18 +6,6 @@ use lib.ListN.{set}
 use Rattle.place.proofs.fill_event.Statement.{statement}
 use Rattle.place.proofs.fill_event.Tie as tie
 
-gives-requires : tie.Need-gives-requires
-gives-requires c κs =
-    let s : tie.Start = search in
-    let label = s .pre .0 .labels (s .args .v .0) (omega arith) in
-    ((s .pre .0 .laid, s .pre .1 .0), (omega (arith, label), omega arith))
-
-takes-requires : tie.Need-takes-requires
-takes-requires c κs =
-    let s : tie.Start = search in
-    let label = s .pre .0 .labels (s .args .v .0) (omega arith) in
-    ((s .pre .0 .laid, s .pre .1 .0), (omega (arith, label), omega arith))
-
 returns : tie.Need-returns
 returns c = (cc, cc)
 
@@ -26,10 +14,16 @@ fill-event-spec =
     tie.close
     (tie.spec
     (λ c κs. search needs)
-    gives-requires
+    (λ c κs.
+    let s : tie.Start = search in
+    let label = s .pre .0 .labels (s .args .v .0) (omega arith) in
+    ((s .pre .0 .laid, s .pre .1 .0), (omega (arith, label), omega arith)))
     (λ c. search needs)
     (λ c. search needs)
-    takes-requires
+    (λ c κs.
+    let s : tie.Start = search in
+    let label = s .pre .0 .labels (s .args .v .0) (omega arith) in
+    ((s .pre .0 .laid, s .pre .1 .0), (omega (arith, label), omega arith)))
     (λ c. search needs)
     (λ c. search needs)
     (λ c. search needs)

@@ -1,11 +1,9 @@
 -- `reedanchor::reedanchor_judge` rests on the row's length, by which the plan judgement's answer has the till's number (`till-is`), and on the
 -- limit of that number (`till-fits`).
-use Prim.Native.Nat.{ℕ, _≤_}
 use mathlib.Core.Path.{_≡_, ap, _∙_}
 use native.Mathlib.Omega.{arith}
 use denote.Ref.{now}
-use lib.ListN.{length, replicate, length-replicate}
-use Rattle.ids.specs.Limits.{mostPlaces}
+use lib.ListN.{length-replicate}
 use Rattle.reedanchor.specs.Till.{answerNumber, tillAnswer}
 use Rattle.reedanchor.specs.Laws.{till-fits}
 use Rattle.reedanchor.proofs.Told.{till-is}
@@ -17,9 +15,7 @@ abbrev entry : tie.After-judge-plan → tie.Start
 entry c = search
 
 told : (c : tie.After-judge-plan) → answerNumber (c .judge-plan .result) ≡ tillAnswer (now (entry c .args .sheet))
-told c =
-    let room : mostPlaces ≤ length {A = ℕ} (replicate mostPlaces 0) = omega (arith, length-replicate {A = ℕ} mostPlaces 0) in
-    ap answerNumber (c .judge-plan .ensures .0) ∙ till-is _ _ room
+told c = ap answerNumber (c .judge-plan .ensures .0) ∙ till-is _ _ (simp length-replicate (omega arith))
 
 answer-number-requires : tie.Need-answer-number-requires
 answer-number-requires c κs = omega (arith, told (search), till-fits (now (entry (search) .args .sheet)))
