@@ -17,6 +17,9 @@ use numbers::get32;
 // The bytes of the table.
 pub const TABLE: usize = 32;
 
+// The bytes of a sheet with the most items of each kind.
+pub const LONGEST: usize = TABLE + 4 * PLACES + 4 * PLACES * TRANSITIONS + 2 * EVENTS + 4 * PAIRS;
+
 // How many items each body has, and where it starts.
 pub struct Layout {
     pub places: usize,

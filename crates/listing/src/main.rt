@@ -1,7 +1,10 @@
-// Prints the listing of the sheet on standard input. At most 21,281 bytes of it are read, which is enough to fault a longer one rightly.
+// Prints the listing of the sheet on standard input. At most one byte more than the longest sheet has is read, which is enough to fault a longer
+// one rightly.
 //
 // A program has no exit status: where the input can't be read nothing is printed, and standard error says why; so it does where the
 // listing can't be written.
+use layout::LONGEST;
+use lines::LISTING_ROOM;
 use listed::Listed;
 use listed::write_listing;
 
@@ -43,7 +46,7 @@ fn print(text: &[u8], n: usize) {
 }
 
 fn list(sheet: &[u8], n: usize) {
-    let mut text = [0u8; 8192];
+    let mut text = [0u8; LISTING_ROOM];
     if n <= sheet.len() {
         let listed = write_listing(&sheet[0..n], &mut text);
         match listed {
@@ -54,7 +57,7 @@ fn list(sheet: &[u8], n: usize) {
 }
 
 fn main() {
-    let mut sheet = [0u8; 21281];
+    let mut sheet = [0u8; LONGEST + 1];
     let input = read_sheet(&mut sheet);
     match input {
         Input::Bytes(n) => list(&sheet, n),
