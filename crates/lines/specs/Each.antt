@@ -20,6 +20,10 @@ pub _then_ : {old mid new : List ℕ} {at : ℕ} {text more : List ℕ} {between
     → Put old new at (text ++ more) end
 _then_ first second = put-then first second
 
+-- a text that was put, by what it says
+pub says : {old new : List ℕ} {at : ℕ} {text : List ℕ} {end : ℕ} → Put old new at text end → (more : List ℕ) → text ≡ more → Put old new at more end
+says put more e = rw e at put
+
 -- What a loop knows that has put the first i of n texts, each of at most `most` bytes.
 pub record Putting (old row : List ℕ) (at : ℕ) (f : ℕ → List ℕ) (most n i end : ℕ) : Type 0 where
   pub passed : i ≤ n
