@@ -15,7 +15,7 @@ use Rattle.place.specs.Place.{missingAt}
 use Rattle.summary.specs.declared.Verdict.the-variants.{Short}
 use Rattle.summary.specs.Laws.{VerdictSays, verdict-says}
 use Rattle.place_judgement.specs.Judgement.{missingIn, judgeFault, judgementOf, judgement-missing}
-use Rattle.plan_judgement.specs.declared.Totals.{Totals}
+use Rattle.summary.specs.declared.Totals.{Totals}
 use Rattle.plan_judgement.specs.declared.Answer.{Answer}
 use Rattle.plan_judgement.specs.declared.Answer.the-variants.{Fault, Judged}
 use Rattle.plan_judgement.specs.Judgement.{planFault, totalsOf, answer, answerOf, rowOf}

@@ -4,7 +4,7 @@ ghost use lib.Dec.{T};
 ghost use Rattle.ids.specs.Lent.{was};
 ghost use Rattle.ids.specs.Limits.{mostEvents};
 ghost use Rattle.marks.specs.Marks.{marked};
-ghost use Rattle.marks.specs.Search.{Tells};
+ghost use Rattle.last_mark.specs.Found.{Tells};
 ghost use Rattle.tokenflow.specs.Rows.{rowsWere, rowsAre};
 ghost use Rattle.drawing.specs.Moves.{Holds, Moves};
 ghost use Rattle.exchange.specs.Exchange.{Exchanged};
@@ -14,7 +14,7 @@ use drawing::least;
 use ids::EVENTS;
 use ids::Event;
 use ids::ROWS;
-use marks::Found;
+use last_mark::Found;
 use tokenflow::draw;
 use tokenflow::give_back;
 

@@ -14,8 +14,8 @@ pub record Filled (f : ℕ → ℕ) (k : ℕ) (old new : List ℕ) : Type 0 wher
   pub numbers : (i : ℕ) → i < k → getD new i 0 ≡ f i
   pub rest : (i : ℕ) → k ≤ i → getD new i 0 ≡ getD old i 0
 
-pub filled-none : (f : ℕ → ℕ) (row : List ℕ) → Filled f 0 row row
-filled-none f row = record { size = refl; numbers = λ i l. absurd (omega arith); rest = λ i l. refl }
+pub filled-none : (f : ℕ → ℕ) (k : ℕ) (row : List ℕ) → k ≡ 0 → Filled f k row row
+filled-none f k row first = record { size = refl; numbers = λ i l. absurd (omega (arith, first)); rest = λ i l. refl }
 
 pub filled-more : (f : ℕ → ℕ) (k : ℕ) (old row : List ℕ) → k < length row → Filled f k old row → Filled f (k + 1) old (set row k (f k))
 filled-more f k old row l h =

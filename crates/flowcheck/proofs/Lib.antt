@@ -1,4 +1,3 @@
 pub mod Tests
-pub mod Adding
 pub mod Told
 pub mod Answers

@@ -1,78 +1,23 @@
--- What the tests at each pair and event, and of the shares, say of the four rules.
+-- What the tests at each event, of the pairs and of the shares say of the four rules.
 use Prim.Native.Nat.{ℕ, _+_, _<_, _≤_}
-use native.Mathlib.Omega.{arith}
-use mathlib.Core.Bool.{Bool, true, false, not, _&&_, _||_, and-true, and-false}
+use mathlib.Core.Bool.{Bool, true, false, not, _&&_, and-true, and-false}
 use mathlib.Core.List.{List}
 use mathlib.Core.Logic.{_↔_}
-use mathlib.Core.Path.{_≡_, refl, sym, ap, ap₂, subst, _∙_}
+use mathlib.Core.Path.{_≡_, sym, ap₂, _∙_}
 use borrow.Author.Tests.{not-true, not-false}
-use lib.Dec.{T, leb, eqb}
-use lib.ListN.{getD, replicate}
+use lib.Dec.{T, leb}
+use lib.ListN.{getD}
 use mir.Facts.{and-yes, yes-and}
-use Rattle.ids.specs.Limits.{mostEvents}
 use Rattle.finite.specs.Bounded.{all, all-yes, yes-all, same}
 use Rattle.finite.specs.Search.{all-start, all-more, all-broken, all-done}
-use Rattle.marks.specs.Marks.{meeting}
 use Rattle.plan.specs.Net.{Net, Plan, takenBy, givenBy}
-use Rattle.plan.specs.Order.{skeleton}
 use Rattle.plan.specs.Flow.{Flow, shares, inflow, outflow, rule1, rule2, rule3, rule4, valid}
 use Rattle.theory.specs.Duality.{rules-pass, passes-rules}
 use Rattle.sheet.specs.Table.{eventsOf, pairsOf}
-use Rattle.sheet.specs.Items.{earlierAt, laterAt, labelAt, takesAt, givesAt, openingAt, netOf, planOf}
-use Rattle.sheet.specs.Faultless.{Faultless}
-use Rattle.order.specs.Rows.{OrderRows}
-use Rattle.order.specs.Laws.{skeleton-marked}
+use Rattle.sheet.specs.Items.{labelAt, takesAt, givesAt, openingAt, netOf, planOf}
 use Rattle.calls.specs.FlowRow.{flowOf}
 use Rattle.flowcheck.specs.Kept.{kept, keptAt, balanced, kept-holds}
-use Rattle.flowcheck.specs.Sums.{sharesOf, SumRaised, PairSums}
-use Rattle.flowcheck.proofs.Adding.{pairs-start, pairs-more}
-
--- rule 4 at pair i
-abbrev rule4At : Plan → Flow → ℕ → Bool
-rule4At P x i = skeleton P i || eqb (x i) 0
-
--- The first i pairs keep rule 4, and this is what they carry.
-pub record Added (s row : List ℕ) (i : ℕ) (into out : List ℕ) : Type 0 where
-  pub rule : all i (rule4At (planOf s) (flowOf row)) ≡ true
-  pub sums : PairSums (planOf s) (flowOf row) i into out
-
-pub added-start : (s row : List ℕ) (i : ℕ) (into out : List ℕ) → i ≡ 0 → into ≡ replicate mostEvents 0 → out ≡ replicate mostEvents 0 → Added s row i into out
-added-start s row i into out first e f = record { rule = rw first (all-start _); sums = pairs-start first e f }
-
-pub added-done : {s row : List ℕ} {i : ℕ} {into out : List ℕ} → Added s row i into out → i ≡ pairsOf s
-    → (true ≡ rule4 (planOf s) (flowOf row)) × PairSums (planOf s) (flowOf row) (pairsOf s) into out
-unfolding rule4
-added-done {s} {row} {i} {into} {out} g e = (
-  sym (rw e at (g .rule)),
-  subst (λ (m : ℕ). PairSums (planOf s) (flowOf row) m into out) e (g .sums),
-)
-
--- pair i of a faultless sheet with n pairs
-module _ {s : List ℕ} (known : Faultless s) (i n : ℕ) {a b : ℕ} (count : n ≡ pairsOf s) (l : i < n) (at-a : a ≡ earlierAt s i) (at-b : b ≡ laterAt s i) where
-  one : i < pairsOf s
-  one = omega arith
-
-  pub within : (a < mostEvents) × (b < mostEvents)
-  within = (omega (arith, known .earlier i one, known .laid .limited .events), omega (arith, known .later i one, known .laid .limited .events))
-
-  module _ {succ pred : List ℕ} (rows : OrderRows (planOf s) succ pred) (row : List ℕ) {r : Bool} (told : r ≡ (not (meeting succ a pred b) || eqb (flowOf row i) 0)) where
-    at-pair : r ≡ rule4At (planOf s) (flowOf row) i
-    at-pair =
-        told
-        ∙ ap₂ (λ (y z : ℕ). not (meeting succ y pred z) || eqb (flowOf row i) 0) at-a at-b
-        ∙ ap (λ (y : Bool). y || eqb (flowOf row i) 0) (skeleton-marked s known succ pred rows i one)
-
-    pub pair-broken : not r ≡ true → false ≡ rule4 (planOf s) (flowOf row)
-    unfolding rule4
-    pair-broken away = all-broken n _ (rule4At (planOf s) (flowOf row)) i count l (sym at-pair ∙ not-true _ away)
-
-    pub pair-more : {into out into′ out′ : List ℕ} → not r ≡ false → Added s row i into out → SumRaised out out′ a (flowOf row i)
-        → SumRaised into into′ b (flowOf row i) → Added s row (i + 1) into′ out′
-    pair-more kept g left arrived =
-        record {
-          rule = all-more _ i (g .rule) (sym at-pair ∙ not-false _ kept);
-          sums = pairs-more (g .sums) at-a at-b refl left arrived;
-        }
+use Rattle.flow_sums.specs.Sums.{sharesOf, PairSums}
 
 pub kept-rules : (N : Net) (P : Plan) (p : ℕ) (x : Flow) → all (P .events) (keptAt N P p x) ≡ (rule1 N P p x && rule2 N P p x)
 kept-rules N P p x = same (all (P .events) (keptAt N P p x)) (rule1 N P p x && rule2 N P p x) to from

@@ -1,89 +1,42 @@
 // The flow check: whether a lent flow row is a valid compact tokenflow for one place of a sheet. The row is only read.
 ghost use Prim.Native.Nat.{_+_, _<_, _≤_};
-ghost use mathlib.Core.Bool.{true};
 ghost use mathlib.Core.Path.{_≡_};
-ghost use lib.ListN.{length, replicate};
-ghost use Rattle.ids.specs.Lent.{was, is};
-ghost use Rattle.ids.specs.Limits.{mostEvents, mostPairs};
-ghost use Rattle.plan.specs.Flow.{rule4, valid};
+ghost use lib.ListN.{length};
+ghost use Rattle.ids.specs.Lent.{was};
+ghost use Rattle.plan.specs.Flow.{valid};
 ghost use Rattle.sheet.specs.Table.{pairsOf};
 ghost use Rattle.sheet.specs.Items.{netOf, planOf};
 ghost use Rattle.sheet.specs.Faultless.{Faultless};
 ghost use Rattle.layout.specs.Layout.{LayoutOf};
 ghost use Rattle.order.specs.Rows.{OrderRows};
 ghost use Rattle.calls.specs.FlowRow.{flowOf};
+ghost use Rattle.flow_sums.specs.Sums.{PairSums};
 ghost use Rattle.flowcheck.specs.Checked.{checkedOf};
 ghost use Rattle.flowcheck.specs.Kept.{keptAt, balanced};
-ghost use Rattle.flowcheck.specs.Sums.{PairSums, sharesOf};
 use calls::with_place;
 use calls::with_row;
 use fault::examine;
+use flow_sums::add_pairs;
+use flow_sums::add_shares;
+use flow_sums::wide;
 use ids::EVENTS;
 use ids::Event;
 use ids::Place;
 use ids::ROWS;
 use layout::Layout;
-use lookup::earlier;
 use lookup::gives;
 use lookup::label;
-use lookup::later;
 use lookup::opening;
 use lookup::takes;
 use rules::covers;
 use rules::keeps;
-use rules::may_carry;
-use rules::raise;
-use rules::wide;
 
-mod rules; // rules.rt: the rules at one pair or event, and the sums
+mod rules; // rules.rt: the rules at one event and for the sum of the shares
 
 pub enum Checked {
     Fault(u32),
     Valid,
     Invalid,
-}
-
-// Rule 4. Where it holds, `into` and `out` are what the pairs carry into each event and out of it.
-fn add_pairs(
-    s: &[u8],
-    l: Layout,
-    row: &[u32],
-    succ: &[u32; ROWS],
-    pred: &[u32; ROWS],
-    into: &mut [u64; EVENTS],
-    out: &mut [u64; EVENTS],
-) -> bool
-    requires { ⌜ Faultless (now s) × LayoutOf (now s) l ⌝ }
-    requires { ⌜ OrderRows (planOf (now s)) (now succ) (now pred) ⌝ }
-    requires { ⌜ l .pairs ≤ length (now row) ⌝ }
-    requires { ⌜ (now into ≡ replicate mostEvents 0) × (now out ≡ replicate mostEvents 0) ⌝ }
-    ensures { λ r. ⌜ r ≡ rule4 (planOf (was s)) (flowOf (was row)) ⌝ }
-    ensures { λ r. ⌜ (r ≡ true → PairSums (planOf (was s)) (flowOf (was row)) (pairsOf (was s)) (is into) (is out)) ⌝ }
-{
-    for i in 0..l.pairs {
-        let a = earlier(s, l, i);
-        let b = later(s, l, i);
-        let x = row[i];
-        if !may_carry(succ, pred, a, b, x) {
-            return false;
-        }
-        raise(out, a, x);
-        raise(into, b, x);
-    }
-    true
-}
-
-// What all the shares come to.
-fn add_shares(row: &[u32], pairs: usize, events: usize) -> u64
-    requires { ⌜ (pairs ≤ mostPairs) × (events ≤ mostEvents) ⌝ }
-    requires { ⌜ pairs + events ≤ length (now row) ⌝ }
-    ensures { λ r. ⌜ r ≡ sharesOf (was row) pairs events ⌝ }
-{
-    let mut total: u64 = 0;
-    for v in 0..events {
-        total += wide(row[pairs + v]);
-    }
-    total
 }
 
 // Rules 1 and 2 at event v.

@@ -1,5 +1,4 @@
-mod Links
 mod Walks
 mod Turns
-mod Stores
+mod Cleared
 mod Parts

@@ -5,9 +5,10 @@ use mathlib.Core.List.{List, [], _++_, append-nil}
 use mathlib.Core.Path.{_≡_, sym, ap, ap₂, _∙_}
 use lib.ListN.{length, getD, take, drop, length-append, length-drop, drop-of-length-le, List·getD-append}
 use lib.Seq.{length-take-le, take-at, drop-at, take-all, getD-drop, getD-append-add}
+use Rattle.finite.specs.Filled.{Filled}
 use Rattle.plan.specs.Net.{Plan}
 use Rattle.fold.specs.Folded.{Folded, folded-row}
-use Rattle.fold.specs.Written.{numbersOf, SharesWritten, SharesFrom}
+use Rattle.fold.specs.Written.{numbersOf, SharesFrom}
 
 -- the row after its first part came back as `first`, what is lent of it next, and the row after that came back as `next`
 abbrev pub between : ℕ → List ℕ → List ℕ → List ℕ
@@ -47,15 +48,15 @@ module _ (m : ℕ) (row first : List ℕ) (long : m ≤ length row) (kept : leng
     later : (v : ℕ) → getD (first ++ next) (m + v) 0 ≡ getD next v 0
     later v = ap (λ (n : ℕ). getD (first ++ next) (n + v) 0) (sym size) ∙ getD-append-add first next v 0
 
-    pub parts-shares : (share : List ℕ) (n : ℕ) → SharesWritten (lentPart m row first) next share n
+    pub parts-shares : (share : List ℕ) (n : ℕ) → Filled (numbersOf share) n (lentPart m row first) next
         → SharesFrom m row (whole m row first next) share n
     parts-shares share n written =
-        let w : SharesWritten (drop m row) next share n = rw lent at written in
+        let w : Filled (numbersOf share) n (drop m row) next = rw lent at written in
         rw
         back
         (record {
           size = omega (arith, length-append first next, w .size, length-drop m row, size);
-          shares = λ v l. later v ∙ w .shares v l;
+          shares = λ v l. later v ∙ w .numbers v l;
           rest = λ j l.
               let at : m + (j - m) ≡ j = omega arith in
               ap (λ (n : ℕ). getD (first ++ next) n 0) (sym at) ∙ later (j - m) ∙ w .rest (j - m) (omega arith)

@@ -17,7 +17,7 @@ use Rattle.fold.specs.Folded.{Folded}
 use Rattle.fold.specs.Carried.{Carried}
 use Rattle.fold.specs.FoldedTo.{turnOf, FoldedTo, to-none, to-skip, to-giver, to-all, to-room, to-more}
 use Rattle.fold.specs.Feeding.{Foldable, Turned}
-use Rattle.fold.specs.Linked.{Walkable}
+use Rattle.fold.specs.Walkable.{Walkable}
 use Rattle.fold.specs.Written.{numbersOf, Zeros}
 
 module _ {P : Plan} {n : ℕ} {succ skel index amount fed : List ℕ} (g : Foldable P n succ skel index amount fed) (row : List ℕ) where

@@ -18,9 +18,10 @@ use Rattle.plan.specs.Net.{Plan}
 use Rattle.plan.specs.Order.{Before, pair, chain}
 use Rattle.theory.specs.Skeleton.{before-earlier, before-later, last-link}
 use Rattle.marks.specs.Marks.{marked}
-use Rattle.marks.specs.Search.{Both}
+use Rattle.last_mark.specs.Found.{Both}
 use Rattle.fold.specs.Carried.{Carried, carried-none, carried-more}
-use Rattle.fold.specs.Linked.{numberOf, IsLink, Walkable, StepBack}
+use Rattle.skeleton.specs.Linked.{numberOf, IsLink}
+use Rattle.fold.specs.Walkable.{Walkable, StepBack}
 use Rattle.fold.specs.Written.{numbersOf, raisedBy}
 
 module _ {P : Plan} {succ skel index : List ℕ} (way : Walkable P succ skel index) where

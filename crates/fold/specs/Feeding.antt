@@ -10,7 +10,7 @@ use Rattle.plan.specs.Order.{Before}
 use Rattle.marks.specs.Marks.{marked}
 use Rattle.tokenflow.specs.Rows.{fedBy}
 use Rattle.fold.specs.FoldedTo.{total, FoldedTo}
-use Rattle.fold.specs.Linked.{Walkable}
+use Rattle.fold.specs.Walkable.{Walkable}
 use Rattle.fold.specs.Written.{numbersOf}
 
 pub record Feeding (P : Plan) (amount fed : List ℕ) : Type 0 where

@@ -14,7 +14,8 @@ use Rattle.order.specs.Rows.{OrderRows}
 use Rattle.tokenflow.specs.Rows.{Rows, fedBy}
 use Rattle.tokenflow.specs.Flowing.{Flowing}
 use Rattle.fold.specs.FoldedTo.{total}
-use Rattle.fold.specs.Linked.{Linked, Walkable}
+use Rattle.skeleton.specs.Linked.{Linked}
+use Rattle.fold.specs.Walkable.{Walkable}
 use Rattle.fold.specs.Feeding.{Feeding, Foldable}
 
 walkable : (s : List ℕ) → Faultless s → (succ pred skel index : List ℕ) → OrderRows (planOf s) succ pred

@@ -1,7 +1,7 @@
 pub mod Folded
 pub mod Carried
 pub mod FoldedTo
-pub mod Linked
+pub mod Walkable
 pub mod Written
 pub mod Feeding
 pub mod Promises

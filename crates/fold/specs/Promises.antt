@@ -13,7 +13,7 @@ use Rattle.fold.specs.Carried.{Carried}
 use Rattle.fold.specs.Folded.{Folded}
 use Rattle.fold.specs.FoldedTo.{FoldedTo}
 use Rattle.fold.specs.Feeding.{Foldable, Turned}
-use Rattle.fold.specs.Linked.{Walkable, StepBack}
+use Rattle.fold.specs.Walkable.{Walkable, StepBack}
 use Rattle.fold.specs.Written.{numbersOf}
 
 -- one step back from cur toward u

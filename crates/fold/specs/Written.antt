@@ -22,13 +22,7 @@ raisedBy row i k = set row i (getD row i 0 + k)
 pub record Zeros (row : List ℕ) : Type 0 where
   pub zero : (i : ℕ) → getD row i 0 ≡ 0
 
--- The first n numbers are the shares of as many events, the others are as they were.
-pub record SharesWritten (part part′ share : List ℕ) (n : ℕ) : Type 0 where
-  pub size : length part′ ≡ length part
-  pub shares : (v : ℕ) → v < n → getD part′ v 0 ≡ getD share v 0
-  pub rest : (j : ℕ) → n ≤ j → getD part′ j 0 ≡ getD part j 0
-
--- The same from m on. Of the numbers below m it says nothing.
+-- From m on the row has the shares of n events, and the numbers after them are as they were. Of those below m it says nothing.
 pub record SharesFrom (m : ℕ) (row row′ share : List ℕ) (n : ℕ) : Type 0 where
   pub size : length row′ ≡ length row
   pub shares : (v : ℕ) → v < n → getD row′ (m + v) 0 ≡ getD share v 0

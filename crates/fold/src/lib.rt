@@ -1,64 +1,23 @@
 // A tokenflow on "before", folded onto the skeleton pairs: the compact tokenflow (003, theorem 2) in a lent row.
-// The sheet is read for the index of skeleton pairs only. From there on a plan stands in the contracts alone: some plan has the rows
-// that are lent, and what is promised holds of every plan that has them.
+// No sheet is read here. A plan stands in the contracts alone: some plan has the rows that are lent, and what is promised holds of
+// every plan that has them.
 ghost use Prim.Native.Nat.{_+_, _*_, _<_, _≤_};
 ghost use mathlib.Core.Path.{_≡_};
 ghost use lib.ListN.{length, getD};
 ghost use Rattle.ids.specs.Lent.{was, is};
-ghost use Rattle.ids.specs.Limits.{mostEvents, square};
-ghost use Rattle.sheet.specs.Table.{pairsOf};
-ghost use Rattle.sheet.specs.Items.{planOf};
-ghost use Rattle.sheet.specs.Faultless.{Faultless};
-ghost use Rattle.layout.specs.Layout.{LayoutOf};
-ghost use Rattle.order.specs.Rows.{Blank, OrderRows};
-ghost use Rattle.fold.specs.Linked.{numberOf, Numbered, Linked};
+ghost use Rattle.ids.specs.Limits.{mostEvents};
+ghost use Rattle.skeleton.specs.Linked.{numberOf};
 ghost use Rattle.fold.specs.Promises.{MayStep, SteppedBack, MayTrace, Traced, Spacious, MayFold, AllFolded, MayFoldGiver, GiverFolded};
-ghost use Rattle.fold.specs.Written.{raisedBy, Zeros, SharesWritten, SharesFrom};
-use closure::is_skeleton;
+ghost use Rattle.fold.specs.Written.{raisedBy, Zeros, SharesFrom};
+use filling::put_words;
+use filling::write_shares;
 use ids::EVENTS;
 use ids::Event;
 use ids::ROWS;
 use ids::SQUARE;
-use layout::Layout;
-use lookup::earlier;
-use lookup::later;
-use marks::Found;
+use last_mark::Found;
+use last_mark::last_common;
 use marks::is_marked;
-use marks::last_common;
-use marks::mark;
-
-// The index has the number i for a and b.
-fn number(index: &mut [usize], a: Event, b: Event, i: usize)
-    requires { ⌜ (a .0 < mostEvents) × (b .0 < mostEvents) × (square ≤ length (now index)) ⌝ }
-    ensures { λ _. ⌜ Numbered (was index) (is index) (a .0) (b .0) i ⌝ }
-{
-    let at = a.0 * EVENTS + b.0;
-    index[at] = i;
-}
-
-// Marks each skeleton pair (a, b) in row b of `skel`, and puts its number into the index.
-pub fn index_pairs(
-    s: &[u8],
-    l: Layout,
-    succ: &[u32; ROWS],
-    pred: &[u32; ROWS],
-    skel: &mut [u32; ROWS],
-    index: &mut [usize; SQUARE],
-)
-    requires { ⌜ Faultless (now s) × LayoutOf (now s) l ⌝ }
-    requires { ⌜ OrderRows (planOf (now s)) (now succ) (now pred) ⌝ }
-    requires { ⌜ Blank (now skel) ⌝ }
-    ensures { λ _. ⌜ Linked (planOf (now (s .entry))) (pairsOf (now (s .entry))) (is skel) (is index) ⌝ }
-{
-    for i in 0..l.pairs {
-        let a = earlier(s, l, i);
-        let b = later(s, l, i);
-        if is_skeleton(succ, pred, a, b) {
-            mark(skel, b.0, a.0);
-            number(index, a, b, i);
-        }
-    }
-}
 
 // One skeleton pair back from `cur` toward u, which is before it.
 fn step_back(succ: &[u32; ROWS], skel: &[u32; ROWS], u: Event, cur: Event) -> Event
@@ -164,15 +123,6 @@ fn fold_givers(
     }
 }
 
-// Writes 0 into the whole row.
-fn clear(row: &mut [u32])
-    ensures { λ _. ⌜ Zeros (is row) ⌝ }
-{
-    for i in 0..row.len() {
-        row[i] = 0;
-    }
-}
-
 // Folds a tokenflow onto the skeleton pairs: the row, one number for each pair, is written whole.
 fn fold(
     succ: &[u32; ROWS],
@@ -186,18 +136,8 @@ fn fold(
     requires { ⌜ MayFold n (length (now row)) succ skel index amount fed ⌝ }
     ensures { λ _. ⌜ AllFolded n (length (was row)) succ skel index amount fed row ⌝ }
 {
-    clear(row);
+    put_words(row, row.len(), 0);
     fold_givers(succ, skel, index, amount, fed, row, n);
-}
-
-// Writes the shares of n events. It is lent the part of a flow row that is theirs, and told nothing of the pairs.
-fn write_shares(part: &mut [u32], share: &[u32; EVENTS], n: usize)
-    requires { ⌜ (n ≤ length (now part)) × (n ≤ mostEvents) ⌝ }
-    ensures { λ _. ⌜ SharesWritten (was part) (is part) (was share) n ⌝ }
-{
-    for v in 0..n {
-        part[v] = share[v];
-    }
 }
 
 // Writes a flow row: the numbers of the pairs, then the shares of the events. What follows them stays.

@@ -3,7 +3,6 @@
 ghost use Prim.Native.Nat.{ℕ, _*_, _≤_};
 ghost use mathlib.Core.Path.{_≡_};
 ghost use lib.ListN.{length};
-ghost use Rattle.finite.specs.Filled.{Filled};
 ghost use Rattle.finite.specs.Sum.{sumOf};
 ghost use Rattle.ids.specs.Lent.{was, is};
 ghost use Rattle.ids.specs.Limits.{mostEvents};
@@ -11,20 +10,11 @@ ghost use Rattle.plan.specs.Net.{Net, Plan};
 ghost use Rattle.least.specs.PlaceRows.{Small, SomePlace};
 ghost use Rattle.least.specs.Settled.{Settles};
 use drawing::draw_all;
+use filling::put_words;
 use ids::EVENTS;
 use ids::ROWS;
 use ids::WORDS;
 use settle::settle;
-
-// The first `count` numbers become x.
-pub fn put_words(rows: &mut [u32], count: usize, x: u32)
-    requires { ⌜ count ≤ length (now rows) ⌝ }
-    ensures { λ _. ⌜ Filled (λ i. x) count (was rows) (is rows) ⌝ }
-{
-    for i in 0..count {
-        rows[i] = x;
-    }
-}
 
 // The sum of the first n numbers of a row.
 fn total(row: &[u32; EVENTS], n: usize) -> u32

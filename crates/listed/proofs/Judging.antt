@@ -15,13 +15,13 @@ use Rattle.place.specs.Place.{missingAt}
 use Rattle.search.specs.Row.{members}
 use Rattle.summary.specs.declared.Verdict.{Verdict}
 use Rattle.summary.specs.declared.Verdict.the-variants.{Runs, Short}
-use Rattle.summary.specs.Summary.{totalMissing, shortPlaces, verdictOf, verdictNumber, countAt, MissingCounts}
+use Rattle.summary.specs.Summary.{totalMissing, shortPlaces, verdictOf, verdictNumber, totalsIn, countAt, MissingCounts}
 use Rattle.summary.specs.Laws.{VerdictSays, verdict-says, verdict-fits}
 use Rattle.plan_judgement.specs.declared.First.{First}
-use Rattle.plan_judgement.specs.declared.Totals.{Totals}
+use Rattle.summary.specs.declared.Totals.{Totals}
 use Rattle.plan_judgement.specs.First.{FirstTo}
 use Rattle.plan_judgement.specs.CountsInRow.{small-counts, totals-agree}
-use Rattle.plan_judgement.specs.Judgement.{totalsIn, totalsOf}
+use Rattle.plan_judgement.specs.Judgement.{totalsOf}
 use Rattle.counts.specs.Free.{free-pairs}
 use Rattle.lines.specs.Listing.{planLine, totalsLine, each, lastLine, verdictLine, lineOf, countLines, linesOf, refusedLine, textOf, listingOf}
 use Rattle.lines.specs.MissingRow.{MissingRow}

@@ -1,39 +1,34 @@
 // The listing of a sheet, written into a lent row of bytes. The sheet is examined once: the rows of its order and the done set of its first
 // short place are handed on.
-ghost use Prim.Native.Nat.{_+_, _≤_, _<_};
+ghost use Prim.Native.Nat.{_≤_};
 ghost use mathlib.Core.Path.{_≡_};
 ghost use lib.ListN.{length};
 ghost use Rattle.closure.specs.PlanRows.{Predecessors};
 ghost use Rattle.ids.specs.Lent.{was, is};
-ghost use Rattle.ids.specs.Limits.{mostPlaces, mostEvents};
 ghost use Rattle.layout.specs.Layout.{LayoutOf};
-ghost use Rattle.lines.specs.Listing.{countLines, lastLine, linesOf, listingOf};
+ghost use Rattle.lines.specs.Listing.{countLines, linesOf, listingOf};
 ghost use Rattle.lines.specs.MissingRow.{MissingRow};
-ghost use Rattle.lines.specs.Room.{countsRoom, firstRoom, listingRoom};
+ghost use Rattle.lines.specs.Room.{countsRoom, listingRoom};
 ghost use Rattle.place.specs.Place.{missingAt};
-ghost use Rattle.search.specs.Row.{members};
 ghost use Rattle.sheet.specs.Faultless.{Faultless};
 ghost use Rattle.sheet.specs.Items.{netOf, planOf};
 ghost use Rattle.sheet.specs.Table.{placesOf};
-ghost use Rattle.summary.specs.Summary.{totalMissing, shortPlaces, verdictNumber};
+ghost use Rattle.summary.specs.Summary.{totalMissing, shortPlaces};
 ghost use Rattle.text.specs.Put.{Put};
 ghost use Rattle.listed.specs.Listed.{listedOf, rowAfter};
 use counts::free_count;
 use fault::examine;
 use ids::PLACES;
 use ids::ROWS;
-use ids::WORDS;
+use last_line::put_verdict;
 use layout::Layout;
 use lines::LISTING_ROOM;
-use lines::put_first;
-use lines::put_places;
 use lines::put_plan;
 use lines::put_refused;
-use lines::put_runs;
 use lines::put_totals;
+use place_lines::put_places;
 use plan_judgement::count_missing;
-use plan_judgement::sum_up;
-use summary::Verdict;
+use summary::sum_up;
 use text::put_word;
 
 pub enum Listed {
@@ -62,18 +57,6 @@ fn put_counts(
     let a = put_plan(row, 0, l.events as u32, l.pairs as u32, free);
     let b = put_places(s, l.places, missing, row, a);
     put_totals(row, b, short, total)
-}
-
-// The last line, by the verdict and the done set of the first short place.
-fn put_verdict(v: Verdict, done: &[u32; WORDS], n: usize, row: &mut [u8], at: usize) -> usize
-    requires { ⌜ verdictNumber v < 1000 + mostPlaces ⌝ }
-    requires { ⌜ (n ≤ mostEvents) × (at + firstRoom ≤ length (now row)) ⌝ }
-    ensures { λ r. ⌜ Put (was row) (is row) at (lastLine v n (members (was done))) r ⌝ }
-{
-    match v {
-        Verdict::Runs => put_runs(row, at),
-        Verdict::Short(p, _m) => put_first(row, at, p, done, n),
-    }
 }
 
 // The listing of a sheet without fault, whose order is in a row.

@@ -1,4 +1,3 @@
-mod Bits
-mod Rows
+pub mod Bits
+pub mod Rows
 mod Meeting
-mod Scan

@@ -1,21 +1,14 @@
-// Rows of marks, one for each event, in words of 32 bits: is it set, set it, remove it, join two rows, have two rows a mark in common,
-// and which. The definitions are in specs/; a caller needs `marked` and what these contracts say of it.
+// Rows of marks, one for each event, in words of 32 bits: is it set, set it, remove it, join two rows, have two rows a mark in common.
+// The definitions are in specs/; a caller needs `marked` and what these contracts say of it.
 ghost use Prim.Native.Nat.{_<_};
 ghost use mathlib.Core.Path.{_≡_};
 ghost use Rattle.ids.specs.Lent.{was, is};
 ghost use Rattle.ids.specs.Limits.{mostEvents};
-ghost use Rattle.marks.specs.Marks.{marked, meeting, HasRow, MarkAdded, MarkRemoved, RowJoined, SetBit};
-ghost use Rattle.marks.specs.Search.{Both, Only, Tells};
+ghost use Rattle.marks.specs.Marks.{marked, meeting, HasRow, MarkAdded, MarkRemoved, RowJoined};
 use ids::WORDS;
 
 // The bits of a word.
-const BITS: usize = 32;
-
-// What a search in two rows finds.
-pub enum Found {
-    At(usize),
-    Nothing,
-}
+pub const BITS: usize = 32;
 
 pub fn is_marked(rows: &[u32], i: usize, j: usize) -> bool
     requires { ⌜ HasRow (now rows) i ⌝ }
@@ -63,46 +56,4 @@ pub fn meets(a: &[u32], i: usize, b: &[u32], j: usize) -> bool
         both |= a[i * WORDS + k] & b[j * WORDS + k];
     }
     both != 0
-}
-
-// The place of the highest bit.
-fn top(x: u32) -> usize
-    requires { ⌜ 0 < x ⌝ }
-    ensures { λ r. ⌜ SetBit x r ⌝ }
-{
-    (31 - u32::leading_zeros(x)) as usize
-}
-
-// A mark that row `i` of `a` and row `j` of `b` both have: the last one.
-pub fn last_common(a: &[u32], i: usize, b: &[u32], j: usize) -> Found
-    requires { ⌜ HasRow (now a) i ⌝ }
-    requires { ⌜ HasRow (now b) j ⌝ }
-    ensures { λ r. ⌜ Tells (Both (was a) i (was b) j) r ⌝ }
-{
-    let mut k: usize = WORDS;
-    while k > 0 {
-        k -= 1;
-        let x = a[i * WORDS + k] & b[j * WORDS + k];
-        if x != 0 {
-            return Found::At(k * BITS + top(x));
-        }
-    }
-    Found::Nothing
-}
-
-// A mark that row `i` of `a` has and row `j` of `b` lacks: the last one.
-pub fn last_only(a: &[u32], i: usize, b: &[u32], j: usize) -> Found
-    requires { ⌜ HasRow (now a) i ⌝ }
-    requires { ⌜ HasRow (now b) j ⌝ }
-    ensures { λ r. ⌜ Tells (Only (was a) i (was b) j) r ⌝ }
-{
-    let mut k: usize = WORDS;
-    while k > 0 {
-        k -= 1;
-        let x = a[i * WORDS + k] & !b[j * WORDS + k];
-        if x != 0 {
-            return Found::At(k * BITS + top(x));
-        }
-    }
-    Found::Nothing
 }

@@ -1,12 +1,16 @@
 -- What a settled place hands over, where it runs and where it is short.
-use Prim.Native.Nat.{ℕ, _+_, _-_, _≤_, _<_}
+use Prim.Native.Nat.{ℕ, _+_, _*_, _-_, _≤_, _<_}
 use native.Mathlib.Omega.{arith}
-use mathlib.Core.Bool.{Bool, cond, _&&_}
+use mathlib.Core.Bool.{cond, not, _&&_}
 use mathlib.Core.List.{List}
-use mathlib.Core.Path.{_≡_, refl, sym, ap, subst, _∙_}
-use borrow.Author.Tests.{lt-ltb, le-ltb}
-use lib.Dec.{T}
+use mathlib.Core.Logic.{⊎-elim}
+use mathlib.Core.Path.{_≡_, refl, sym, ap₂, subst, _∙_}
+use borrow.Author.Tests.{le-ltb}
+use lib.ListN.{length, replicate}
+use lib.Dec.{T, ltb, ltb→lt, nltb→le}
+use Rattle.finite.specs.Bounded.{decide}
 use Rattle.finite.specs.Filled.{Filled}
+use Rattle.finite.specs.Row.{zeros-room}
 use Rattle.finite.specs.Subset.{Set}
 use Rattle.plan.specs.Net.{Net, Plan}
 use Rattle.plan.specs.Flow.{valid}
@@ -15,26 +19,29 @@ use Rattle.sheet.specs.Faultless.{Faultless}
 use Rattle.sheet.specs.Items.{netOf, planOf}
 use Rattle.sheet.specs.Table.{pairsOf}
 use Rattle.order.specs.Rows.{OrderRows}
-use Rattle.ids.specs.Limits.{mostEvents}
 use Rattle.layout.specs.Layout.{LayoutOf}
-use Rattle.marks.specs.Marks.{marked}
 use Rattle.layout.specs.declared.Layout.{Layout}
 use Rattle.tokenflow.specs.Rows.{Rows, rows, fedBy}
 use Rattle.tokenflow.specs.Flowing.{Flowing, lacking}
-use Rattle.search.specs.Row.{members, member-told}
+use Rattle.search.specs.Row.{members}
 use Rattle.calls.specs.FlowRow.{flowLength, flowOf}
 use Rattle.calls.specs.Overwritten.{overwritten, filled-is}
+use Rattle.done_set.specs.Mark.{markIn}
 use Rattle.place.specs.Judged.{Judged, JudgedIn}
 use Rattle.fold.specs.Folded.{Folded}
 use Rattle.fold.specs.Feeding.{Foldable}
 use Rattle.fold.specs.FromSheet.{sheet-foldable}
-use Rattle.fold.specs.Linked.{Linked}
+use Rattle.skeleton.specs.Linked.{Linked}
 use Rattle.fold.specs.Written.{numbersOf, SharesFrom, written-valid}
-use Rattle.place_judgement.specs.Handed.{doneMark, markOf, validAt, Written}
+use Rattle.place_judgement.specs.Handed.{doneMark, validAt, Written}
 
--- the mark of v, by the test of it
-pub mark-is : (set : List ℕ) (v : ℕ) (b : Bool) {a : Bool} → v < mostEvents → a ≡ marked set 0 v → a ≡ b → cond {A = ℕ} b 1 0 ≡ markOf set v
-mark-is set v b near test told = ap (λ (x : Bool). cond {A = ℕ} x 1 0) (sym (member-told set v b near test told))
+-- the events of a sheet are few enough for a row of words, and for a square of numbers
+module _ (s : List ℕ) (known : Faultless s) (l : Layout) (e : LayoutOf s l) where
+  pub few-events : l .events ≤ 256
+  few-events = omega (arith, e .events, known .laid .limited .events)
+
+  pub square-room : l .events * 256 ≤ length (replicate {A = ℕ} 65536 0)
+  square-room = zeros-room _ 65536 (omega (arith, few-events))
 
 filled-as : (f g : ℕ → ℕ) (k l : ℕ) (old new : List ℕ) → k ≡ l → ((i : ℕ) → f i ≡ g i) → Filled f k old new → new ≡ overwritten g l old
 filled-as f g k l old new e same h =
@@ -49,25 +56,24 @@ filled-as f g k l old new e same h =
       rest = λ i m. h .rest i (omega (arith, e));
     })
 
-module _ (N : Net) (P : Plan) (p : ℕ) where
-  none-marked : missing N P p ≡ 0 → (v : ℕ) → 0 ≡ doneMark N P p v
-  unfolding doneMark
-  none-marked e v = simp (le-ltb 0 (missing N P p) (omega (arith, e)))
+-- The marks of a set are those of the done set that is due, if it is that set where something is missing.
+module _ (N : Net) (P : Plan) (p : ℕ) (D : Set) (m : ℕ) (count : m ≡ missing N P p) (set : 0 < missing N P p → smallest N P p ≡ D) where
+  mark-due : (v : ℕ) → markIn m D v ≡ doneMark N P p v
+  unfolding markIn doneMark
+  mark-due v = ⊎-elim some none (decide (ltb 0 m))
+    where
+      some : T (ltb 0 m) → cond {A = ℕ} (ltb 0 m && D v) 1 0 ≡ cond (ltb 0 (missing N P p) && smallest N P p v) 1 0
+      some t =
+          let short : 0 < missing N P p = omega (arith, count, ltb→lt 0 m t) in
+          ap₂ (λ (k : ℕ) (E : Set). cond {A = ℕ} (ltb 0 k && E v) 1 0) count (sym (set short))
 
-  set-marked : (set : Set) → 0 < missing N P p → smallest N P p ≡ set → (v : ℕ) → cond {A = ℕ} (set v) 1 0 ≡ doneMark N P p v
-  unfolding doneMark
-  set-marked set short e v =
-      ap (λ (b : Bool). cond {A = ℕ} b 1 0) (sym (ap (λ (D : Set). D v) e) ∙ sym (ap (λ (b : Bool). b && smallest N P p v) (lt-ltb 0 (missing N P p) short)))
+      none : T (not (ltb 0 m)) → cond {A = ℕ} (ltb 0 m && D v) 1 0 ≡ cond (ltb 0 (missing N P p) && smallest N P p v) 1 0
+      none t = let few = nltb→le 0 m t in simp (le-ltb 0 m few, le-ltb 0 (missing N P p) (omega (arith, count, few)))
 
-module _ (N : Net) (P : Plan) (p : ℕ) (pred : List ℕ) (r : Rows) (givers : List ℕ) (m : ℕ) (j : Judged N P p pred r givers m) (n : ℕ) (marks marks′ : List ℕ) where
-  pub runs-marks : m ≡ 0 → Filled (λ v. 0) n marks marks′ → marks′ ≡ overwritten (doneMark N P p) n marks
-  runs-marks none h =
-      filled-as (λ v. 0) (doneMark N P p) n n marks marks′ refl (none-marked N P p (sym (j .count) ∙ none)) h
-
-  pub short-marks : ¬ (m ≡ 0) → Filled (markOf givers) n marks marks′ → marks′ ≡ overwritten (doneMark N P p) n marks
-  short-marks some h =
-      let short : 0 < missing N P p = omega (arith, j .count, some) in
-      filled-as (markOf givers) (doneMark N P p) n n marks marks′ refl (set-marked N P p (members givers) short (j .set short)) h
+pub marks-done : {N : Net} {P : Plan} {p : ℕ} {pred : List ℕ} {r : Rows} {givers : List ℕ} {m n k : ℕ} {marks marks′ : List ℕ}
+    → Judged N P p pred r givers m → n ≡ k → Filled (markIn m (members givers)) n marks marks′ → marks′ ≡ overwritten (doneMark N P p) k marks
+marks-done {N} {P} {p} {pred} {r} {givers} {m} j e h =
+    filled-as _ (doneMark N P p) _ _ _ _ e (mark-due N P p (members givers) m (j .count) (j .set)) h
 
 module _ (s : List ℕ) (p : ℕ) (pred : List ℕ) (r : Rows) (givers : List ℕ) (m : ℕ) (j : Judged (netOf s) (planOf s) p pred r givers m)
     (l : Layout) (e : LayoutOf s l) (flow flow′ : List ℕ) where

@@ -12,12 +12,10 @@ use Rattle.plan.specs.Prefix.{missing, smallest}
 use Rattle.sheet.specs.Items.{netOf, planOf}
 use Rattle.calls.specs.FlowRow.{flowLength, flowOf}
 use Rattle.calls.specs.Overwritten.{overwritten}
-use Rattle.ids.specs.Lent.{Held, Lent, was, is}
+use Rattle.ids.specs.Lent.{Held}
 use Rattle.ids.specs.declared.Place.{Place}
-use Rattle.search.specs.Row.{members}
 use Rattle.sheet.specs.Table.{eventsOf}
-use Rattle.tokenflow.specs.Rows.{Rows}
-use Rattle.place.specs.Judged.{Judged, JudgedIn}
+use Rattle.place.specs.Judged.{JudgedIn}
 
 -- A mark is 1 for a member of the smallest done set of the greatest lack if something is missing, else 0.
 unfoldable pub doneMark : Net → Plan → ℕ → ℕ → ℕ
@@ -37,10 +35,6 @@ pub record Written (s : List ℕ) (p : ℕ) (flow flow′ : List ℕ) : Type 0 w
 abbrev pub marksDone : List ℕ → ℕ → List ℕ → List ℕ
 marksDone s p marks = overwritten (doneMark (netOf s) (planOf s) p) (eventsOf s) marks
 
--- the mark of v for a set of events
-abbrev pub markOf : List ℕ → ℕ → ℕ
-markOf set v = cond (members set v) 1 0
-
 -- whether a row is a valid flow for a place of a sheet
 abbrev pub validAt : List ℕ → ℕ → List ℕ → Bool
 validAt s p flow = valid (netOf s) (planOf s) p (flowOf flow)
@@ -49,9 +43,3 @@ validAt s p flow = valid (netOf s) (planOf s) p (flowOf flow)
 abbrev pub ShownBy : Held → Place → Held → Held → Held → Held → ℕ → Type 0
 ShownBy s p pred amount fed share m =
     (givers : List ℕ) × JudgedIn (now s) (p .0) (now pred) (now amount) (now fed) (now share) givers m
-
--- The row of marks is that of any place that was judged with these givers and m missing.
-abbrev pub MarksHere : Lent → ℕ → Lent → ℕ → Type 0
-MarksHere givers m marks n =
-    (N : Net) (P : Plan) (p : ℕ) (pred : List ℕ) (r : Rows) → Judged N P p pred r (was givers) m
-    → is marks ≡ overwritten (doneMark N P p) n (was marks)

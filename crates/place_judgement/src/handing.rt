@@ -1,28 +1,22 @@
-// What a judged place hands over in the lent rows: a valid flow, or the marks of the smallest done set.
+// What a judged place hands over in the flow row: a valid flow, or zeros.
 ghost use Prim.Native.Nat.{_+_, _<_, _≤_};
-ghost use mathlib.Core.Path.{_≡_};
 ghost use lib.Dec.{T};
 ghost use lib.ListN.{length};
-ghost use Rattle.finite.specs.Filled.{Filled};
 ghost use Rattle.fold.specs.Written.{SharesFrom};
 ghost use Rattle.ids.specs.Lent.{was, is};
-ghost use Rattle.ids.specs.Limits.{mostEvents};
 ghost use Rattle.layout.specs.Layout.{LayoutOf};
 ghost use Rattle.order.specs.Rows.{OrderRows};
 ghost use Rattle.sheet.specs.Faultless.{Faultless};
 ghost use Rattle.sheet.specs.Items.{planOf};
-ghost use Rattle.place_judgement.specs.Handed.{markOf, validAt, ShownBy, Written, MarksHere};
-use fold::index_pairs;
+ghost use Rattle.place_judgement.specs.Handed.{validAt, ShownBy, Written};
+use filling::put_words;
 use fold::write_flow;
 use ids::EVENTS;
-use ids::Event;
 use ids::Place;
 use ids::ROWS;
 use ids::SQUARE;
-use ids::WORDS;
 use layout::Layout;
-use least::put_words;
-use marks::is_marked;
+use skeleton::index_pairs;
 
 // Writes the tokenflow of a place that lacks nothing as a flow row, by way of the skeleton pairs.
 fn hand_over(
@@ -79,44 +73,4 @@ pub fn hand_flow(
         return;
     }
     put_words(flow, l.pairs + l.events, 0);
-}
-
-// The mark of the event v: 1 if it is in the set, else 0.
-fn done_mark(set: &[u32; WORDS], v: Event) -> u8
-    requires { ⌜ v .0 < mostEvents ⌝ }
-    ensures { λ r. ⌜ r ≡ markOf (was set) (v .0) ⌝ }
-{
-    if is_marked(set, 0, v.0) { 1 } else { 0 }
-}
-
-// Marks the events of a set.
-fn write_marks(set: &[u32; WORDS], marks: &mut [u8], n: usize)
-    requires { ⌜ (n ≤ mostEvents) × (n ≤ length (now marks)) ⌝ }
-    ensures { λ _. ⌜ Filled (markOf (was set)) n (was marks) (is marks) ⌝ }
-{
-    for v in 0..n {
-        marks[v] = done_mark(set, Event(v));
-    }
-}
-
-// Marks no event.
-fn clear_marks(marks: &mut [u8], n: usize)
-    requires { ⌜ n ≤ length (now marks) ⌝ }
-    ensures { λ _. ⌜ Filled (λ v. 0) n (was marks) (is marks) ⌝ }
-{
-    for v in 0..n {
-        marks[v] = 0;
-    }
-}
-
-// Marks the done set of any place that was judged with these givers and m missing: no event if nothing is missing.
-pub fn hand_marks(givers: &[u32; WORDS], m: u32, marks: &mut [u8], n: usize)
-    requires { ⌜ (n ≤ mostEvents) × (n ≤ length (now marks)) ⌝ }
-    ensures { λ _. ⌜ MarksHere givers m marks n ⌝ }
-{
-    if m != 0 {
-        write_marks(givers, marks, n);
-        return;
-    }
-    clear_marks(marks, n);
 }

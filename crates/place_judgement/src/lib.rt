@@ -12,7 +12,7 @@ ghost use Rattle.place_judgement.specs.Handed.{marksDone, Written};
 ghost use Rattle.place_judgement.specs.Judgement.{Handed, judgementOf, marksAfter};
 use calls::with_place;
 use calls::with_row;
-use drawing::event_order;
+use done_set::write_marks;
 use fault::examine;
 use ids::EVENTS;
 use ids::Place;
@@ -21,11 +21,11 @@ use ids::SQUARE;
 use ids::WORDS;
 use layout::Layout;
 use place::missing_count;
+use ranks::event_order;
 
 mod handing;
 
 use handing::hand_flow;
-use handing::hand_marks;
 
 pub enum Judgement {
     Fault(u32),
@@ -71,7 +71,7 @@ fn judge_known(
         &mut givers,
     );
     hand_flow(s, l, p, succ, pred, &amount, &fed, &share, m, flow);
-    hand_marks(&givers, m, marks, l.events);
+    write_marks(&givers, m, marks, l.events);
     m
 }
 

@@ -15,10 +15,10 @@ use Rattle.calls.specs.Call.{row-known}
 use Rattle.calls.specs.Refusal.{FaultTold, Next, row-link}
 use Rattle.calls.specs.Overwritten.{overwritten, filled-is, at-fault, at-none}
 use Rattle.place.specs.Place.{missingAt}
-use Rattle.summary.specs.Summary.{countAt, MissingCounts}
-use Rattle.plan_judgement.specs.declared.Totals.{Totals}
+use Rattle.summary.specs.Summary.{totalsIn, countAt, MissingCounts}
+use Rattle.summary.specs.declared.Totals.{Totals}
 use Rattle.plan_judgement.specs.declared.Answer.the-variants.{Fault, Judged}
-use Rattle.plan_judgement.specs.Judgement.{planFault, totalsIn, totalsOf, answer, answerOf, rowOf}
+use Rattle.plan_judgement.specs.Judgement.{planFault, totalsOf, answer, answerOf, rowOf}
 use Rattle.plan_judgement.specs.CountsInRow.{small-counts, totals-agree}
 
 -- the fault of the call, by its two links

@@ -11,10 +11,9 @@ use Rattle.sheet.specs.Faultless.{Faultless, sound}
 use Rattle.sheet.specs.Items.{netOf, planOf, labelAt}
 use Rattle.sheet.specs.Table.{placesOf, eventsOf}
 use Rattle.summary.specs.Laws.{total-agrees, short-agrees, verdict-agrees}
-use Rattle.summary.specs.Summary.{mostMissing, countAt, MissingCounts}
+use Rattle.summary.specs.Summary.{mostMissing, totalsIn, countAt, MissingCounts}
 use Rattle.theory.specs.Missing.{missing-most}
-use Rattle.plan_judgement.specs.declared.Totals.{Totals}
-use Rattle.plan_judgement.specs.Judgement.{totalsIn, totalsOf}
+use Rattle.plan_judgement.specs.Judgement.{totalsOf}
 
 -- What is missing at a place is no more than all events take.
 most-missing : (s : List ℕ) → Faultless s → (p : ℕ) → p < placesOf s → missingAt s p ≤ mostMissing

@@ -6,8 +6,8 @@ use Rattle.calls.specs.Overwritten.{overwritten, unlessFault}
 use Rattle.place.specs.Place.{missingAt}
 use Rattle.sheet.specs.Faults.{faultOf}
 use Rattle.sheet.specs.Table.{placesOf}
-use Rattle.summary.specs.Summary.{totalMissing, shortPlaces, verdictOf}
-use Rattle.plan_judgement.specs.declared.Totals.{Totals}
+use Rattle.summary.specs.declared.Totals.{Totals}
+use Rattle.summary.specs.Summary.{totalsIn}
 use Rattle.plan_judgement.specs.declared.Answer.{Answer}
 use Rattle.plan_judgement.specs.declared.Answer.the-variants.{Fault, Judged}
 
@@ -20,12 +20,7 @@ faultIn (Judged totals) = 0
 unfoldable pub planFault : List ℕ → List ℕ → ℕ
 planFault s row = rowFault (faultOf s) row (placesOf s)
 
--- the total missing, the number of short places and the verdict, of the missing counts of n places
-abbrev pub totalsIn : (ℕ → ℕ) → ℕ → Totals
-totalsIn missing n =
-    record { total = totalMissing missing n; short = shortPlaces missing n; verdict = verdictOf missing n }
-
--- those of a sheet
+-- the total missing, the number of short places and the verdict, of a sheet
 unfoldable pub totalsOf : List ℕ → Totals
 totalsOf s = totalsIn (missingAt s) (placesOf s)
 

@@ -11,7 +11,7 @@ use Rattle.sheet.specs.Items.{netOf, planOf}
 use Rattle.sheet.specs.Table.{placesOf}
 use Rattle.summary.specs.declared.Verdict.the-variants.{Runs}
 use Rattle.summary.specs.Laws.{verdict-runs}
-use Rattle.plan_judgement.specs.declared.Totals.{Totals}
+use Rattle.summary.specs.declared.Totals.{Totals}
 use Rattle.plan_judgement.specs.Judgement.{faultIn, planFault, totalsOf, answer, answerOf}
 
 answer-fault : (k : ℕ) (totals : Totals) → faultIn (answer k totals) ≡ k

@@ -10,11 +10,9 @@ ghost use Rattle.layout.specs.Layout.{LayoutOf};
 ghost use Rattle.sheet.specs.Faultless.{Faultless};
 ghost use Rattle.sheet.specs.Items.{planOf};
 ghost use Rattle.place.specs.Place.{missingAt};
-ghost use Rattle.summary.specs.Summary.{countAt, MissingCounts};
 ghost use Rattle.plan_judgement.specs.First.{FirstTo};
-ghost use Rattle.plan_judgement.specs.Judgement.{totalsIn, answerOf, rowOf};
+ghost use Rattle.plan_judgement.specs.Judgement.{answerOf, rowOf};
 use calls::with_row;
-use drawing::event_order;
 use fault::examine;
 use ids::EVENTS;
 use ids::Place;
@@ -23,17 +21,9 @@ use ids::SQUARE;
 use ids::WORDS;
 use layout::Layout;
 use place::missing_count;
-use summary::Verdict;
-use summary::short_places;
-use summary::total_missing;
-use summary::verdict_of;
-
-// What is missing in all, how many places are short, and the verdict.
-pub struct Totals {
-    pub total: u32,
-    pub short: u32,
-    pub verdict: Verdict,
-}
+use ranks::event_order;
+use summary::Totals;
+use summary::sum_up;
 
 pub enum Answer {
     Fault(u32),
@@ -121,21 +111,6 @@ pub fn count_missing(s: &[u8], l: Layout, pred: &[u32; ROWS], row: &mut [u32]) -
     let mut amount = [0u32; SQUARE];
     let mut fed = [0u32; ROWS];
     count_places(s, l, pred, &order, &mut amount, &mut fed, row)
-}
-
-// What the counts of the first n places come to.
-pub fn sum_up(row: &[u32], n: usize) -> Totals
-    requires { ⌜ MissingCounts (now row) n × (n ≤ length (now row)) ⌝ }
-    ensures { λ r. ⌜ r ≡ totalsIn (countAt (was row)) n ⌝ }
-{
-    let total = total_missing(row, n);
-    let short = short_places(row, n);
-    let verdict = verdict_of(row, n);
-    Totals {
-        total,
-        short,
-        verdict,
-    }
 }
 
 // The plan judgement. The order is worked out once for all places.

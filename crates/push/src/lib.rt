@@ -11,6 +11,7 @@ use ids::EVENTS;
 use ids::Event;
 use ids::ROWS;
 use ids::WORDS;
+use last_mark::Found;
 use levels::SETS;
 use levels::lowest;
 use levels::mark_givers;
@@ -18,7 +19,6 @@ use levels::mark_spare;
 use levels::mark_takers;
 use levels::set_levels;
 use levels::unmark_spent;
-use marks::Found;
 
 // More than givers and takers there are.
 const TURNS: usize = 3 * EVENTS;
@@ -43,7 +43,7 @@ fn pull_by(
     requires { ⌜ level < mostEvents ⌝ }
     ensures { λ _. ⌜ Moves n pred amount fed free share ⌝ }
 {
-    let found = marks::last_common(pred, w.0, sets, level);
+    let found = last_mark::last_common(pred, w.0, sets, level);
     let Found::At(x) = found else {
         marks::unmark(within, 0, w.0);
         return;
@@ -71,7 +71,7 @@ fn pull_once(
     requires { ⌜ (v .0 < mostEvents) × (level < mostEvents) ⌝ }
     ensures { λ _. ⌜ Moves n pred amount fed free share ⌝ }
 {
-    let found = marks::last_common(fed, v.0, within, 0);
+    let found = last_mark::last_common(fed, v.0, within, 0);
     let Found::At(w) = found else {
         return false;
     };
@@ -135,7 +135,7 @@ fn pull_next(
 {
     let row = EVENTS + lower;
     let none = [0u32; WORDS];
-    let found = marks::last_only(sets, row, &none, 0);
+    let found = last_mark::last_only(sets, row, &none, 0);
     let Found::At(x) = found else {
         return false;
     };

@@ -13,7 +13,7 @@ use Rattle.sheet.specs.Faultless.{faultless}
 use Rattle.calls.specs.Call.{lower-first, long-row}
 use Rattle.place.specs.Place.{missingAt}
 use Rattle.summary.specs.Summary.{verdictOf}
-use Rattle.plan_judgement.specs.declared.Totals.{Totals}
+use Rattle.summary.specs.declared.Totals.{Totals}
 use Rattle.plan_judgement.specs.Judgement.{planFault, totalsOf, answer, answerOf}
 use Rattle.reedanchor.specs.Till.{answerNumber, unlessRefused, tillAnswer}
 

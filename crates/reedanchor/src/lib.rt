@@ -1,23 +1,11 @@
 // The plan judgement for C, over the bytes of a sheet alone.
 ghost use Prim.Native.Nat.{_<_};
 ghost use mathlib.Core.Path.{_≡_};
-ghost use Rattle.summary.specs.Summary.{verdictNumber};
 ghost use Rattle.reedanchor.specs.Till.{answersBelow, answerNumber, tillAnswer};
 use ids::PLACES;
 use plan_judgement::Answer;
 use plan_judgement::judge_plan;
-use summary::Verdict;
-
-// 0 for a plan that runs, or 1,000 plus the number of the first short place.
-fn verdict_number(v: Verdict) -> u32
-    requires { ⌜ verdictNumber v < answersBelow ⌝ }
-    ensures { λ r. ⌜ r ≡ verdictNumber v ⌝ }
-{
-    match v {
-        Verdict::Runs => 0,
-        Verdict::Short(p, _m) => 1000 + p.0 as u32,
-    }
-}
+use summary::verdict_number;
 
 // The number of a fault, else of the verdict.
 fn answer_number(a: Answer) -> u32

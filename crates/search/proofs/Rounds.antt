@@ -7,7 +7,7 @@ use mathlib.Core.Path.{_≡_, refl, sym, subst, _∙_}
 use lib.Dec.{T}
 use Rattle.finite.specs.Count.{count-within}
 use Rattle.marks.specs.Marks.{marked}
-use Rattle.marks.specs.Search.{Only, none-only}
+use Rattle.last_mark.specs.Found.{Only, none-only}
 use Rattle.search.specs.Row.{members, In, Empty, AllIn, in-marked, marked-in}
 use Rattle.search.specs.Exhausted.{Narrow}
 use Rattle.search.specs.Trail.{_!_, Takers, Givers, takersOf, giversOf, Trail}

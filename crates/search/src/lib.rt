@@ -4,7 +4,7 @@ use ids::EVENTS;
 use ids::Event;
 use ids::ROWS;
 use ids::WORDS;
-use marks::Found;
+use last_mark::Found;
 ghost use Prim.Native.Nat.{_≤_, _<_};
 ghost use lib.ListN.{length};
 ghost use Rattle.ids.specs.Lent.{was, is};
@@ -86,7 +86,7 @@ fn follow(
 {
     let mut end = tail;
     loop {
-        let Found::At(x) = marks::last_only(fed, u.0, takers, 0) else {
+        let Found::At(x) = last_mark::last_only(fed, u.0, takers, 0) else {
             return end;
         };
         list(takers, queue, end, Event(x));
@@ -117,7 +117,7 @@ fn visit(
     let w = Event(queue[head]);
     let mut end = tail;
     loop {
-        let Found::At(x) = marks::last_only(pred, w.0, givers, 0) else {
+        let Found::At(x) = last_mark::last_only(pred, w.0, givers, 0) else {
             return end;
         };
         let u = Event(x);

@@ -6,6 +6,7 @@ use lib.Dec.{ltb}
 use lib.ListN.{getD}
 use Rattle.finite.specs.Sum.{sum, on}
 use Rattle.ids.specs.Limits.{mostPlaces}
+use Rattle.summary.specs.declared.Totals.{Totals}
 use Rattle.summary.specs.declared.Verdict.{Verdict}
 use Rattle.summary.specs.declared.Verdict.the-variants.{Runs, Short}
 
@@ -26,6 +27,11 @@ decides (Short q k) b p m = Short q k
 unfoldable pub verdictOf : (ℕ → ℕ) → ℕ → Verdict
 verdictOf missing zero = Runs
 verdictOf missing (suc n) = decides (verdictOf missing n) (ltb 0 (missing n)) n (missing n)
+
+-- all three
+abbrev pub totalsIn : (ℕ → ℕ) → ℕ → Totals
+totalsIn missing n =
+    record { total = totalMissing missing n; short = shortPlaces missing n; verdict = verdictOf missing n }
 
 -- The number of each case, which the till server gets: 0 for a plan that runs, or 1,000 plus the number of the first short place,
 abbrev pub verdictNumber : Verdict → ℕ

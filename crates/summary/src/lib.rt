@@ -1,8 +1,10 @@
 // What the counts of all places come to: the total missing, the number of short places, and the verdict.
-ghost use Prim.Native.Nat.{_≤_};
+ghost use Prim.Native.Nat.{_+_, _≤_, _<_};
 ghost use mathlib.Core.Path.{_≡_};
 ghost use lib.ListN.{length};
-ghost use Rattle.summary.specs.Summary.{totalMissing, shortPlaces, verdictOf, countAt, MissingCounts};
+ghost use Rattle.ids.specs.Lent.{was};
+ghost use Rattle.ids.specs.Limits.{mostPlaces};
+ghost use Rattle.summary.specs.Summary.{totalMissing, shortPlaces, verdictOf, verdictNumber, totalsIn, countAt, MissingCounts};
 use ids::Place;
 
 // A plan runs, or is short at a first place by a missing count.
@@ -11,9 +13,16 @@ pub enum Verdict {
     Short(Place, u32),
 }
 
-pub fn total_missing(row: &[u32], n: usize) -> u32
+// What is missing in all, how many places are short, and the verdict.
+pub struct Totals {
+    pub total: u32,
+    pub short: u32,
+    pub verdict: Verdict,
+}
+
+fn total_missing(row: &[u32], n: usize) -> u32
     requires { ⌜ MissingCounts (now row) n × (n ≤ length (now row)) ⌝ }
-    ensures { λ r. ⌜ r ≡ totalMissing (countAt (now (row .entry))) n ⌝ }
+    ensures { λ r. ⌜ r ≡ totalMissing (countAt (was row)) n ⌝ }
 {
     let mut total: u32 = 0;
     for p in 0..n {
@@ -22,9 +31,9 @@ pub fn total_missing(row: &[u32], n: usize) -> u32
     total
 }
 
-pub fn short_places(row: &[u32], n: usize) -> u32
+fn short_places(row: &[u32], n: usize) -> u32
     requires { ⌜ MissingCounts (now row) n × (n ≤ length (now row)) ⌝ }
-    ensures { λ r. ⌜ r ≡ shortPlaces (countAt (now (row .entry))) n ⌝ }
+    ensures { λ r. ⌜ r ≡ shortPlaces (countAt (was row)) n ⌝ }
 {
     let mut short: u32 = 0;
     for p in 0..n {
@@ -35,9 +44,9 @@ pub fn short_places(row: &[u32], n: usize) -> u32
     short
 }
 
-pub fn verdict_of(row: &[u32], n: usize) -> Verdict
+fn verdict_of(row: &[u32], n: usize) -> Verdict
     requires { ⌜ n ≤ length (now row) ⌝ }
-    ensures { λ r. ⌜ r ≡ verdictOf (countAt (now (row .entry))) n ⌝ }
+    ensures { λ r. ⌜ r ≡ verdictOf (countAt (was row)) n ⌝ }
 {
     for p in 0..n {
         if row[p] > 0 {
@@ -45,4 +54,30 @@ pub fn verdict_of(row: &[u32], n: usize) -> Verdict
         }
     }
     Verdict::Runs
+}
+
+// What the counts of the first n places come to.
+pub fn sum_up(row: &[u32], n: usize) -> Totals
+    requires { ⌜ MissingCounts (now row) n × (n ≤ length (now row)) ⌝ }
+    ensures { λ r. ⌜ r ≡ totalsIn (countAt (was row)) n ⌝ }
+{
+    let total = total_missing(row, n);
+    let short = short_places(row, n);
+    let verdict = verdict_of(row, n);
+    Totals {
+        total,
+        short,
+        verdict,
+    }
+}
+
+// 0 for a plan that runs, or 1,000 plus the number of the first short place.
+pub fn verdict_number(v: Verdict) -> u32
+    requires { ⌜ verdictNumber v < 1000 + mostPlaces ⌝ }
+    ensures { λ r. ⌜ r ≡ verdictNumber v ⌝ }
+{
+    match v {
+        Verdict::Runs => 0,
+        Verdict::Short(p, _m) => 1000 + p.0 as u32,
+    }
 }

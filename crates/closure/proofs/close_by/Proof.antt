@@ -2,7 +2,7 @@
 use Prim.Native.Nat.{_-_, _≤_}
 use native.Mathlib.Omega.{arith}
 use mathlib.Core.Logic.{⊎-elim}
-use mathlib.Core.Path.{subst}
+use mathlib.Core.Path.{subst, sym, _∙_}
 use borrow.Author.Needs.{needs}
 use Rattle.closure.specs.ClosedRows.{ClosedRowsBy}
 use Rattle.closure.proofs.Rounds.{start, turn-join, turn-pass, more}
@@ -20,7 +20,8 @@ loop-holds c = (search needs, start _ _ _ (omega arith))
 
 loop-again : tie.Need-loop-again Inv-loop μ-loop
 loop-again c =
-    let at-loop : tie.At-loop Inv-loop μ-loop = search in (
+    let at-loop : tie.At-loop Inv-loop μ-loop = search in
+    let is = sym (c .before .is-marked .ensures) in (
       search needs,
       more
           _
@@ -30,7 +31,7 @@ loop-again c =
           _
           (omega arith)
           (at-loop .loop .inv .1)
-          (⊎-elim (λ w. turn-join _ _ _ _ _ (cc) (w .2 .ensures) (w .3)) (λ w. turn-pass _ _ _ _ (cc) (w .1)) (c .if1 .came)),
+          (⊎-elim (λ w. turn-join _ _ _ _ _ (is ∙ w .0 .taken) (w .2 .ensures) (w .3)) (λ w. turn-pass _ _ _ _ (is ∙ w .0 .left) (w .1)) (c .if1 .came)),
     )
 
 returns : tie.Need-returns Inv-loop μ-loop

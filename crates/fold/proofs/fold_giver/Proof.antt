@@ -2,6 +2,7 @@
 use Prim.Native.Nat.{_*_, _-_, _≤_}
 use native.Mathlib.Omega.{arith}
 use mathlib.Core.Logic.{⊎-elim}
+use mathlib.Core.Path.{sym, _∙_}
 use borrow.Author.Needs.{needs}
 use Rattle.ids.specs.Limits.{mostEvents}
 use Rattle.fold.specs.Feeding.{Turned}
@@ -25,19 +26,21 @@ trace-requires c κs =
     let start : tie.Start Inv-loop μ-loop = search in
     let at-loop : tie.At-loop Inv-loop μ-loop = search in
     let l = at-loop .loop in
-    let found = c .before .tokens .ensures in
-    (search needs, turn-trace (start .args .u .0) (l .w) (l .inv .1) (omega arith) (omega arith) _ (cc) found (start .pre .1))
+    let fed : tie.Then1 Inv-loop μ-loop = search in
+    let told = sym (fed .before .is-marked .ensures) ∙ fed .if1 .taken in
+    (search needs, turn-trace (start .args .u .0) (l .w) (l .inv .1) (omega arith) (omega arith) _ told (c .before .tokens .ensures) (start .pre .1))
 
 loop-again : tie.Need-loop-again Inv-loop μ-loop
 loop-again c =
     let start : tie.Start Inv-loop μ-loop = search in
     let at-loop : tie.At-loop Inv-loop μ-loop = search in
     let u = start .args .u .0 in
+    let is = sym (c .before .is-marked .ensures) in
     let l = at-loop .loop in (
       search needs,
       ⊎-elim
-          (λ t. turn-more u (l .w) (l .inv .1) (omega arith) (omega arith) _ (cc) (t .1 .ensures) _ _ (t .6) (search needs) (t .3 .ensures))
-          (λ t. turn-skip u (l .w) (l .inv .1) (omega arith) (omega arith) _ (cc) (t .1))
+          (λ t. turn-more u (l .w) (l .inv .1) (omega arith) (omega arith) _ (is ∙ t .0 .taken) (t .1 .ensures) _ _ (t .6) (search needs) (t .3 .ensures))
+          (λ t. turn-skip u (l .w) (l .inv .1) (omega arith) (omega arith) _ (is ∙ t .0 .left) (t .1))
           (c .if1 .came),
     )
 

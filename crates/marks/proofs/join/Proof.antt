@@ -1,6 +1,7 @@
 -- The invariant: the first k words of the row `from` are united into the row `into`.
 use Prim.Native.Nat.{_≤_, _-_}
 use native.Mathlib.Omega.{arith}
+use mathlib.Core.Path.{refl}
 use borrow.Author.Needs.{needs}
 use Rattle.marks.proofs.Rows.{Joining, start, more, done}
 use Rattle.marks.proofs.join.Statement.{statement}
@@ -18,7 +19,7 @@ loop-holds c = (search needs, start _ _ _ _ (omega arith))
 loop-again : tie.Need-loop-again Inv-loop μ-loop
 loop-again c =
     let at-loop : tie.At-loop Inv-loop μ-loop = search in
-    (search needs, more _ _ _ _ _ _ _ (omega arith) (omega arith) (at-loop .loop .inv .1) (omega arith) (cc))
+    (search needs, more _ _ _ _ _ _ _ (omega arith) (omega arith) (at-loop .loop .inv .1) (omega arith) refl)
 
 returns : tie.Need-returns Inv-loop μ-loop
 returns c = done _ _ _ _ _ (omega arith) (c .before .loop .inv .1)

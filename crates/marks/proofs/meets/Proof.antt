@@ -1,6 +1,7 @@
 -- The invariant: `both` is the union, over the first k words, of what the two rows have in common.
 use Prim.Native.Nat.{_≤_, _-_}
 use native.Mathlib.Omega.{arith}
+use mathlib.Core.Path.{refl}
 use borrow.Author.Needs.{needs}
 use Rattle.marks.proofs.Meeting.{Gathered, start, more, done}
 use Rattle.marks.proofs.meets.Statement.{statement}
@@ -30,7 +31,7 @@ loop-again c =
           _
           (λ q. omega (arith, first .shared-slice-known .given q))
           (λ q. omega (arith, c .shared-slice-known2 .given q))
-          (cc)
+          refl
           (at-loop .loop .inv .1),
     )
 

@@ -1,5 +1,5 @@
 -- `place::fill` meets its contract. The invariant: what the events below v give and take stands in the two rows.
-use Prim.Native.Nat.{ℕ, _+_, _-_, _≤_, zero-le}
+use Prim.Native.Nat.{ℕ, _+_, _-_, _≤_}
 use native.Mathlib.Omega.{arith}
 use mathlib.Core.Path.{_≡_, sym, subst}
 use borrow.Author.Needs.{needs}
@@ -45,7 +45,7 @@ fill-spec =
     (tie.spec
     Inv-loop
     μ-loop
-    (λ c. (zero-le, filled-none _ _, filled-none _ _))
+    (λ c. (search needs, filled-none _ _ _ (omega arith), filled-none _ _ _ (omega arith)))
     fill-event-requires
     (λ c. search needs)
     (λ c. search needs)

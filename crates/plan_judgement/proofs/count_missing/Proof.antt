@@ -1,8 +1,8 @@
 -- `plan_judgement::count_missing` meets its contract: the working rows are long enough.
-use Prim.Native.Nat.{ℕ}
+use Prim.Native.Nat.{_*_}
 use native.Mathlib.Omega.{arith}
 use borrow.Author.Needs.{needs}
-use lib.ListN.{length-replicate}
+use Rattle.finite.specs.Row.{zeros-room}
 use Rattle.plan_judgement.proofs.count_missing.Statement.{statement}
 use Rattle.plan_judgement.proofs.count_missing.Tie as tie
 
@@ -10,7 +10,7 @@ count-places-requires : tie.Need-count-places-requires
 count-places-requires c κs =
     let s : tie.Start = search in
     let few = s .pre .0 .laid .limited .events in
-    (s .pre .0, (s .pre .1 .0, (s .pre .1 .1 .0, (omega (arith, length-replicate {A = ℕ} 65536 0), s .pre .1 .1 .1))))
+    (s .pre .0, (s .pre .1 .0, (s .pre .1 .1 .0, (zeros-room (s .args .l .events * 256) 65536 (omega arith), s .pre .1 .1 .1))))
 
 pub count-missing-spec : {M : Type 1} → statement M
 count-missing-spec =

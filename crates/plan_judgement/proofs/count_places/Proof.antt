@@ -1,6 +1,6 @@
 -- `plan_judgement::count_places` meets its contract. The invariant: the places below p are counted, and the done set of the first short one of
 -- them is kept; the amounts are as many as before.
-use Prim.Native.Nat.{_-_, _≤_, zero-le}
+use Prim.Native.Nat.{_-_, _≤_}
 use native.Mathlib.Omega.{arith}
 use mathlib.Core.Path.{_≡_, refl, _∙_}
 use borrow.Author.Needs.{needs}
@@ -50,7 +50,7 @@ count-places-spec =
     (tie.spec
     Inv-loop
     μ-loop
-    (λ c. (zero-le, filled-none _ _, first-start _ _ refl, refl))
+    (λ c. (search needs, filled-none _ _ _ (omega arith), first-start _ _ refl, refl))
     count-place-requires
     (λ c. search needs)
     (λ c. search needs)

@@ -1,6 +1,6 @@
 -- Rests on the giver found: it is marked as before w, so it is an event, and an exchange moves tokens.
 use borrow.Author.Needs.{needs}
-use Rattle.marks.specs.Search.{Both}
+use Rattle.last_mark.specs.Found.{Both}
 use Rattle.drawing.specs.Moves.{moves}
 use Rattle.push.proofs.pull_by.Statement.{statement}
 use Rattle.push.proofs.pull_by.Tie as tie

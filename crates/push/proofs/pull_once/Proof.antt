@@ -1,6 +1,6 @@
 -- Rests on the taker found: v is marked as feeding it, so both are events.
 use borrow.Author.Needs.{needs}
-use Rattle.marks.specs.Search.{Both}
+use Rattle.last_mark.specs.Found.{Both}
 use Rattle.push.proofs.pull_once.Statement.{statement}
 use Rattle.push.proofs.pull_once.Tie as tie
 

@@ -2,7 +2,7 @@
 use Prim.Native.Nat.{_-_, _<_}
 use native.Mathlib.Omega.{arith}
 use borrow.Author.Needs.{needs}
-use Rattle.marks.specs.Search.{Only}
+use Rattle.last_mark.specs.Found.{Only}
 use Rattle.search.specs.Trail.{takersOf}
 use Rattle.search.specs.Steps.{Following}
 use Rattle.search.proofs.Queue.{room}

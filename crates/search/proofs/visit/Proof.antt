@@ -3,7 +3,7 @@ use Prim.Native.Nat.{_-_, _<_}
 use native.Mathlib.Omega.{arith}
 use borrow.Author.Needs.{needs}
 use Rattle.finite.specs.Count.{count}
-use Rattle.marks.specs.Search.{Only}
+use Rattle.last_mark.specs.Found.{Only}
 use Rattle.search.specs.Row.{members, in-below}
 use Rattle.search.specs.Trail.{_!_, takersOf, giversOf}
 use Rattle.search.specs.Steps.{Visiting}
