@@ -1,5 +1,5 @@
-// The lines of a listing, and those that tell of the whole plan or of a refusal, each written into a row of bytes. A call returns where
-// its text ends and leaves the rest of the row.
+// The lines of a listing that tell of the whole plan or of a refusal, each written into a row of bytes. A call returns where its text ends
+// and leaves the rest of the row.
 ghost use Prim.Native.Nat.{_+_, _≤_};
 ghost use lib.ListN.{length};
 ghost use Rattle.ids.specs.Lent.{was, is};
