@@ -16,33 +16,58 @@ static uint32_t get32(const uint8_t *at)
     return get16(at) | get16(at + 2) << 16;
 }
 
-// Faults 1 to 4; leaves the four counts in the plan and the starts of the bodies in `start`.
-static uint32_t read_contents(const uint8_t *sheet, size_t length, struct plan *plan, size_t start[4])
+// A start and an item count as the table of contents gives them.
+static uint32_t start_given(const uint8_t *sheet, unsigned entry)
 {
-    static const uint32_t most[4] = {MAX_PLACES, MAX_TRANSITIONS, MAX_EVENTS, MAX_PAIRS};
-    uint32_t count[4];
+    return get32(sheet + 8 * entry);
+}
+
+static uint32_t count_given(const uint8_t *sheet, unsigned entry)
+{
+    return get32(sheet + 8 * entry + 4);
+}
+
+// Where each body is due to start by the counts of those before it, and where the last one ends.
+static void work_out_starts(const uint8_t *sheet, size_t due[PLAN_ENTRIES + 1])
+{
+    const size_t size[PLAN_ENTRIES] = {4, 4 * (size_t)count_given(sheet, 0), 2, 4};
+
+    due[0] = CONTENTS;
+    for (unsigned i = 0; i < PLAN_ENTRIES; i++)
+        due[i + 1] = due[i] + count_given(sheet, i) * size[i];
+}
+
+unsigned plan_wrong_entry(const uint8_t *sheet)
+{
+    size_t due[PLAN_ENTRIES + 1];
+    unsigned entry = 0;
+
+    work_out_starts(sheet, due);
+    while (entry < PLAN_ENTRIES && start_given(sheet, entry) == due[entry])
+        entry++;
+    return entry;
+}
+
+// Faults 1, 2, 14, 15 and 4; leaves the four counts in the plan, and in `start` the starts of the bodies and the end of the last one.
+static uint32_t read_contents(const uint8_t *sheet, size_t length, struct plan *plan, size_t start[PLAN_ENTRIES + 1])
+{
+    static const uint32_t most[PLAN_ENTRIES] = {MAX_PLACES, MAX_TRANSITIONS, MAX_EVENTS, MAX_PAIRS};
 
     if (length < CONTENTS)
         return 1;
-    for (int i = 0; i < 4; i++) {
-        count[i] = get32(sheet + 8 * i + 4);
-        if (count[i] > most[i])
+    for (unsigned i = 0; i < PLAN_ENTRIES; i++)
+        if (count_given(sheet, i) > most[i])
             return 2;
-    }
-    const size_t size[4] = {4, 4 * (size_t)count[0], 2, 4};
-    size_t end = CONTENTS;
-    for (int i = 0; i < 4; i++) {
-        if (get32(sheet + 8 * i) != end)
-            return 3;
-        start[i] = end;
-        end += count[i] * size[i];
-    }
-    if (length != end)
+    work_out_starts(sheet, start);
+    unsigned wrong = plan_wrong_entry(sheet);
+    if (wrong < PLAN_ENTRIES)
+        return start_given(sheet, wrong) > start[wrong] ? 14 : 15;
+    if (length != start[PLAN_ENTRIES])
         return 4;
-    plan->places = count[0];
-    plan->transitions = count[1];
-    plan->events = count[2];
-    plan->pairs = count[3];
+    plan->places = count_given(sheet, 0);
+    plan->transitions = count_given(sheet, 1);
+    plan->events = count_given(sheet, 2);
+    plan->pairs = count_given(sheet, 3);
     return 0;
 }
 
@@ -144,7 +169,7 @@ static void work_out_skeleton(struct plan *plan)
 
 uint32_t plan_read(const uint8_t *sheet, size_t length, struct plan *plan)
 {
-    size_t start[4];
+    size_t start[PLAN_ENTRIES + 1];
     uint32_t fault = read_contents(sheet, length, plan, start);
 
     if (fault == 0)

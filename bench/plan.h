@@ -12,6 +12,7 @@
 #define MAX_OPENING 1000000
 #define MAX_WEIGHT 1000
 #define MAX_SHEET 21280
+#define PLAN_ENTRIES 4 // of the table of contents: places, transitions, events, pairs
 
 struct plan {
     unsigned places, transitions, events, pairs;
@@ -29,8 +30,11 @@ struct plan {
 extern "C" {
 #endif
 
-// Reads a sheet. Returns 0, or the number of its lowest fault, 1 to 11; the plan is then of no use.
+// Reads a sheet. Returns 0, or the number of its fault, the first of 1, 2, 14 or 15, and 4 to 11; the plan is then of no use.
 uint32_t plan_read(const uint8_t *sheet, size_t length, struct plan *plan);
+
+// The first entry of a table of contents whose start isn't the end of what precedes it, PLAN_ENTRIES if there is none.
+unsigned plan_wrong_entry(const uint8_t *sheet);
 
 // What event `e` takes from a place and gives to it.
 static inline unsigned plan_takes(const struct plan *plan, unsigned e, unsigned place)

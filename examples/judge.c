@@ -16,7 +16,8 @@ static const char *reason(uint32_t fault)
     switch (fault) {
     case REEDANCHOR_NO_TABLE: return "fewer than 32 bytes";
     case REEDANCHOR_OVER_LIMIT: return "an item count above its limit";
-    case REEDANCHOR_MISPLACED_BODY: return "a body's start isn't the end of what precedes it";
+    case REEDANCHOR_LATE_BODY: return "a body starts late, leaving a gap";
+    case REEDANCHOR_EARLY_BODY: return "a body starts early, running into the one before";
     case REEDANCHOR_WRONG_END: return "the sheet doesn't end with its last body";
     case REEDANCHOR_OVER_OPENING: return "an opening count above 1,000,000";
     case REEDANCHOR_OVER_WEIGHT: return "a weight above 1,000";

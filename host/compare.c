@@ -9,10 +9,18 @@
 #include <stdio.h>
 #include <stdlib.h>
 
-enum { FAULTS = 11, DAMAGES = 3 };
+// The faults of a sheet, in the order in which they are told.
+static const uint32_t faults[] = {
+    REEDANCHOR_NO_TABLE,     REEDANCHOR_OVER_LIMIT,   REEDANCHOR_LATE_BODY,     REEDANCHOR_EARLY_BODY,
+    REEDANCHOR_WRONG_END,    REEDANCHOR_OVER_OPENING, REEDANCHOR_OVER_WEIGHT,   REEDANCHOR_NO_TRANSITION,
+    REEDANCHOR_NO_EVENT,     REEDANCHOR_SELF_PAIR,    REEDANCHOR_REPEATED_PAIR, REEDANCHOR_CYCLE,
+};
+
+enum { FAULTS = sizeof faults / sizeof *faults, DAMAGES = 3 };
 
 struct tally {
-    unsigned long sheets, runs, short_at[MAX_PLACES], fault[FAULTS + 1], walked, above_limit;
+    unsigned long sheets, runs, short_at[MAX_PLACES], fault[FAULTS], walked, above_limit;
+    unsigned long late[PLAN_ENTRIES + 1], early[PLAN_ENTRIES + 1]; // by the first wrong entry, and one more for none
 };
 
 // The answer by the independent judge; where all done sets can be walked, that has to agree.
@@ -48,6 +56,23 @@ static void fail(const struct bytes *sheet, const char *where, uint32_t found, u
     stop_at(sheet);
 }
 
+// Counts a fault. Whether there is one of this number.
+static int count_fault(struct tally *tally, const struct bytes *sheet, uint32_t number)
+{
+    int k = 0;
+
+    while (k < FAULTS && faults[k] != number)
+        k++;
+    if (k == FAULTS)
+        return 0;
+    tally->fault[k]++;
+    if (number == REEDANCHOR_LATE_BODY)
+        tally->late[plan_wrong_entry(sheet->at)]++;
+    if (number == REEDANCHOR_EARLY_BODY)
+        tally->early[plan_wrong_entry(sheet->at)]++;
+    return 1;
+}
+
 // Counts an answer that both judges gave. One that the header doesn't name is a failure, though they agree.
 static void count(struct tally *tally, const struct bytes *sheet, uint32_t answer)
 {
@@ -55,11 +80,9 @@ static void count(struct tally *tally, const struct bytes *sheet, uint32_t answe
     tally->above_limit += sheet->length > MAX_SHEET;
     if (answer == REEDANCHOR_RUNS) {
         tally->runs++;
-    } else if (answer <= FAULTS) {
-        tally->fault[answer]++;
     } else if (answer >= REEDANCHOR_SHORT && answer - REEDANCHOR_SHORT < MAX_PLACES) {
         tally->short_at[answer - REEDANCHOR_SHORT]++;
-    } else {
+    } else if (!count_fault(tally, sheet, answer)) {
         fprintf(stderr, "compare: both judges say %u, which is no answer, of the sheet:\n", answer);
         stop_at(sheet);
     }
@@ -100,8 +123,10 @@ static int shows_enough(const struct tally *tally, unsigned long least)
 
     for (int p = 1; p < MAX_PLACES; p++)
         later += tally->short_at[p];
-    for (int k = 1; k <= FAULTS; k++)
+    for (int k = 0; k < FAULTS; k++)
         enough = enough && tally->fault[k] >= least;
+    for (int i = 0; i < PLAN_ENTRIES; i++)
+        enough = enough && tally->late[i] >= least && tally->early[i] >= least;
     return enough && later >= least;
 }
 
@@ -113,8 +138,10 @@ static void print(const struct tally *tally)
         later += tally->short_at[p];
     printf("%lu sheets, each judged alike twice: %lu run, %lu short at place 0, %lu short first at a later place", tally->sheets,
            tally->runs, tally->short_at[0], later);
-    for (int k = 1; k <= FAULTS; k++)
-        printf(", fault %d %lu", k, tally->fault[k]);
+    for (int k = 0; k < FAULTS; k++)
+        printf(", fault %u %lu", faults[k], tally->fault[k]);
+    for (int i = 0; i < PLAN_ENTRIES; i++)
+        printf("%s entry %d late %lu, early %lu", i == 0 ? ";" : ",", i, tally->late[i], tally->early[i]);
     printf("; all done sets walked of %lu, %lu longer than any sheet may be\n", tally->walked, tally->above_limit);
 }
 
@@ -135,7 +162,7 @@ int main(int words, char **word)
         compare_all(&sheet, &r, &tally);
     }
     print(&tally);
-    if (!shows_enough(&tally, tally.sheets / 1000)) {
+    if (!shows_enough(&tally, 1 + tally.sheets / 1000)) {
         fprintf(stderr, "compare: some answers occurred too seldom\n");
         return 1;
     }

@@ -172,6 +172,18 @@ static void change_table(struct bytes *sheet, struct random *r)
     }
 }
 
+// Two starts of the table by a little, each late or early.
+static void move_starts(struct bytes *sheet, struct random *r)
+{
+    if (sheet->length < 32)
+        return;
+    for (int moved = 0; moved < 2; moved++) {
+        size_t at = 8 * random_below(r, PLAN_ENTRIES);
+        uint32_t by = 1 + random_below(r, 4);
+        set_word(sheet, at, random_below(r, 2) == 0 ? word_at(sheet, at) + by : word_at(sheet, at) - by);
+    }
+}
+
 // One pair more, made of an old one: the other way round, the same again, or an event with itself.
 static void add_pair(struct bytes *sheet, struct random *r)
 {
@@ -202,7 +214,9 @@ static void pass_limit(struct bytes *sheet, struct random *r)
 
 void make_damage(struct bytes *sheet, struct random *r)
 {
-    static void (*const ways[])(struct bytes *, struct random *) = {flip_bits, change_body, cut, extend, change_table, add_pair, pass_limit};
+    static void (*const ways[])(struct bytes *, struct random *) = {
+        flip_bits, change_body, cut, extend, change_table, move_starts, add_pair, pass_limit,
+    };
     enum { WAYS = sizeof ways / sizeof *ways };
 
     ways[random_below(r, WAYS)](sheet, r);

@@ -14,10 +14,12 @@ enum {
     /* The plan runs: nothing is missing at any place. */
     REEDANCHOR_RUNS = 0,
 
-    /* Faults of the sheet; the lowest number that applies is returned, and the plan isn't judged. */
+    /* Faults of the sheet; the first of this list that applies is returned, and the plan isn't judged. Late or early is decided at the first
+     * entry of the table of contents whose start is wrong. */
     REEDANCHOR_NO_TABLE = 1,       /* fewer than 32 bytes */
     REEDANCHOR_OVER_LIMIT = 2,     /* an item count above its limit: 64 places, 64 transitions, 256 events, 1,024 pairs */
-    REEDANCHOR_MISPLACED_BODY = 3, /* a body's start isn't the end of what precedes it */
+    REEDANCHOR_LATE_BODY = 14,     /* a body starts late, leaving a gap */
+    REEDANCHOR_EARLY_BODY = 15,    /* a body starts early, running into the one before */
     REEDANCHOR_WRONG_END = 4,      /* the sheet doesn't end with its last body */
     REEDANCHOR_OVER_OPENING = 5,   /* an opening count above 1,000,000 */
     REEDANCHOR_OVER_WEIGHT = 6,    /* a weight above 1,000 */

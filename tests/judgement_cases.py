@@ -3,8 +3,9 @@
 
 usage: judgement_cases.py [DIRECTORY]
 
-What is expected comes from document 01's table and its rules, not from any judge. Where a plan runs at the place, the flow row isn't
-printed, since the choice among valid flows is free; that the flow check takes it is.
+What is expected comes from the documents' tables and rules, not from any judge. A refused call's fault is typed in as its number and its
+item. Where a plan runs at the place, the flow row isn't printed, since the choice among valid flows is free; that the flow check
+takes it is.
 """
 import os
 import struct
@@ -53,17 +54,21 @@ def examples():
         yield judged(plans.LISTED, place, [1, 0, 0], done)
 
 
-def refused_plan(number, counts):
-    return line("plan", "fault", number, "counts", *lent((), counts))
+def refused_plan(fault, counts):
+    return line("plan", "fault", *fault, "counts", *lent((), counts))
 
 
-def refused_place(number, flow, marks):
-    return line("place", "fault", number, "marks", *lent((), marks, UNTOUCHED_MARK), "flow", *lent((), flow))
+def refused_place(fault, flow, marks):
+    return line("place", "fault", *fault, "marks", *lent((), marks, UNTOUCHED_MARK), "flow", *lent((), flow))
 
 
-def refused(number, sheet, place, counts, flow, marks):
-    """A case whose three calls are all refused with this number."""
-    lines = refused_plan(number, counts) + refused_place(number, flow, marks) + line("check", "fault", number)
+def refused_check(fault):
+    return line("check", "fault", *fault)
+
+
+def refused(fault, sheet, place, counts, flow, marks):
+    """A case whose three calls are all refused with this fault, a number and an item."""
+    lines = refused_plan(fault, counts) + refused_place(fault, flow, marks) + refused_check(fault)
     return case(sheet, place, counts, flow, marks), lines
 
 
@@ -74,24 +79,48 @@ def listed(counts):
 
 def faults_of_a_call():
     sheet = plans.LISTED.sheet()
+    no_place, short_row = (12, 0), (13, 0)
     for place, counts, flow, marks in ((3, 3, 4, 3), (65535, 5, 3, 2)):
-        yield case(sheet, place, counts, flow, marks), listed(counts) + refused_place(12, flow, marks) + line("check", "fault", 12)
-    yield refused(13, sheet, 0, 2, 3, 3)
-    yield refused(13, sheet, 2, 0, 0, 0)
+        yield case(sheet, place, counts, flow, marks), listed(counts) + refused_place(no_place, flow, marks) + refused_check(no_place)
+    yield refused(short_row, sheet, 0, 2, 3, 3)
+    yield refused(short_row, sheet, 2, 0, 0, 0)
     # too few marks alone: the flow row of greatest numbers is no flow
-    yield case(sheet, 1, 3, 4, 2), listed(3) + refused_place(13, 4, 2) + line("check", "invalid")
+    yield case(sheet, 1, 3, 4, 2), listed(3) + refused_place(short_row, 4, 2) + line("check", "invalid")
     # just enough of everything
     place_line = line("place", "short", 1, "marks", 0, 0, 0, "flow", 0, 0, 0, 0)
     yield case(sheet, 0, 3, 4, 3), listed(3) + place_line + line("check", "invalid")
 
 
+def changed(**parts):
+    """The sheet of 78 bytes with other items."""
+    same = {name: getattr(plans.LISTED, name) for name in ("opening", "transitions", "labels", "pairs")}
+    return plans.Plan(**{**same, **parts}).sheet()
+
+
 def faulty_sheets():
-    """A sheet's own fault comes before a wrong place and rows that are too short."""
-    sheet, net = plans.LISTED.sheet(), (plans.LISTED.opening, plans.LISTED.transitions, plans.LISTED.labels)
-    twice, cycle = plans.Plan(*net, ((0, 1), (0, 1))).sheet(), plans.Plan(*net, ((0, 1), (1, 0))).sheet()
-    for number, faulty in ((1, b""), (1, sheet[:31]), (4, sheet + b"\0"), (4, sheet[:-1]), (10, twice), (11, cycle)):
-        yield refused(number, faulty, 0, 4, 6, 5)
-        yield refused(number, faulty, 3, 0, 0, 0)
+    """A sheet's own fault, with its item, comes before a wrong place and rows that are too short."""
+    sheet, hold = plans.LISTED.sheet(), plans.LISTED.transitions[0]
+    for fault, faulty in (
+        ((1, 0), b""),
+        ((1, 0), sheet[:31]),
+        ((2, 0), sheet[:4] + bytes([65]) + sheet[5:]),
+        ((14, 0), bytes([33]) + sheet[1:]),
+        ((15, 0), bytes([31]) + sheet[1:]),
+        ((14, 0), sheet[:24] + bytes([75]) + sheet[25:]),
+        ((15, 0), sheet[:24] + bytes([73]) + sheet[25:]),
+        ((4, 0), sheet + b"\0"),
+        ((4, 0), sheet[:-1]),
+        ((5, 1), changed(opening=(0, 1000001, 1000001))),
+        ((6, 1), changed(transitions=(hold, ((0, 1, 0), (0, 0, 1001))))),
+        ((7, 2), changed(labels=(0, 1, 2))),
+        ((8, 3), changed(pairs=((0, 1), (1, 1), (0, 1), (3, 0), (0, 3)))),
+        ((9, 2), changed(pairs=((0, 1), (0, 1), (2, 2), (1, 1)))),
+        ((10, 1), changed(pairs=((0, 1), (0, 1)))),
+        ((10, 2), changed(pairs=((0, 1), (1, 2), (1, 2), (0, 1)))),
+        ((11, 0), changed(pairs=((0, 1), (1, 0)))),
+    ):
+        yield refused(fault, faulty, 0, 4, 6, 5)
+        yield refused(fault, faulty, 3, 0, 0, 0)
 
 
 def main():

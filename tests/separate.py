@@ -1,4 +1,5 @@
-"""A judge of sheets that shares nothing with the code under test: document 01's definitions, read off literally.
+"""A judge of sheets that shares nothing with the code under test: the definitions of document 01, and the faults with document 02's A2, read
+off literally.
 
 It walks all done sets of a plan, so it is for plans of a few events. `by_greatest_flow` is a second way to a place's missing
 count and smallest done set, for plans of any size; tests/random_plans holds the two against each other. What it finds of a larger plan
@@ -7,10 +8,20 @@ counts only where `objection` has none: a done set and rows of flow, each held t
 import struct
 from collections import deque
 from functools import cached_property
+from typing import NamedTuple
 
 LIMITS = (64, 64, 256, 1024)  # places, transitions, events, pairs
 MOST_BYTES = 21280
 WALKED_EVENTS = 12  # up to so many events all done sets are walked
+
+
+class Fault(NamedTuple):
+    """The number of a fault and the item at fault: the number of a place, transition, event or pair, 0 where the fault has none."""
+    number: int
+    item: int = 0
+
+
+NO_FAULT = Fault(0)
 
 
 def item_lengths(places):
@@ -29,40 +40,36 @@ def has_cycle(events, pairs):
 
 
 def fault(sheet):
-    """The lowest number of the table of faults that applies, 0 for none."""
+    """The first that applies of 1, 2, 14 or 15, and 4 to 11, in this order. The item of 5 to 10 is the first one at fault."""
     if len(sheet) < 32:
-        return 1
+        return Fault(1)
     words = struct.unpack_from("<8I", sheet)
     starts, counts = words[0::2], words[1::2]
     if any(count > limit for count, limit in zip(counts, LIMITS)):
-        return 2
+        return Fault(2)
     places, transitions, events, pairs = counts
     due = 32
     for start, count, size in zip(starts, counts, item_lengths(places)):
         if start != due:
-            return 3
+            return Fault(14 if start > due else 15)
         due = start + count * size
     if len(sheet) != due:
-        return 4
+        return Fault(4)
     opening = struct.unpack_from("<%dI" % places, sheet, starts[0])
     weights = struct.unpack_from("<%dH" % (2 * places * transitions), sheet, starts[1])
     labels = struct.unpack_from("<%dH" % events, sheet, starts[2])
     ends = list(struct.iter_unpack("<2H", sheet[starts[3]:]))
-    if any(count > 1000000 for count in opening):
-        return 5
-    if any(weight > 1000 for weight in weights):
-        return 6
-    if any(label >= transitions for label in labels):
-        return 7
-    if any(a >= events or b >= events for a, b in ends):
-        return 8
-    if any(a == b for a, b in ends):
-        return 9
-    if len(set(ends)) < len(ends):
-        return 10
-    if has_cycle(events, ends):
-        return 11
-    return 0
+    for number, at_fault in (
+        (5, [count > 1000000 for count in opening]),
+        (6, [any(weight > 1000 for weight in weights[2 * places * t:2 * places * (t + 1)]) for t in range(transitions)]),
+        (7, [label >= transitions for label in labels]),
+        (8, [a >= events or b >= events for a, b in ends]),
+        (9, [a == b for a, b in ends]),
+        (10, [pair in ends[:i] for i, pair in enumerate(ends)]),
+    ):
+        if True in at_fault:
+            return Fault(number, at_fault.index(True))
+    return Fault(11) if has_cycle(events, ends) else NO_FAULT
 
 
 def read(sheet):
@@ -338,9 +345,9 @@ class Network:
 
 def listing(sheet):
     """What the listing program has to print for these bytes."""
-    number = fault(sheet)
-    if number:
-        return "refused %d\n" % number
+    found = fault(sheet)
+    if found != NO_FAULT:
+        return "refused %d\n" % found.number
     plan = read(sheet)
     answers = [plan.judge(p) for p in range(plan.places)]
     lines = ["plan events %d pairs %d free %d" % (plan.events, len(plan.pairs), plan.free)]

@@ -4,6 +4,7 @@ use mathlib.Core.List.{List}
 use lib.ListN.{getD}
 use Rattle.plan.specs.Flow.{Flow}
 use Rattle.sheet.specs.Table.{eventsOf, pairsOf}
+use Rattle.sheet.specs.declared.Fault.{Fault}
 use Rattle.calls.specs.Call.{placeFault, rowFault}
 
 -- how many numbers it has to have
@@ -15,5 +16,5 @@ abbrev pub flowOf : List ℕ → Flow
 flowOf row i = getD row i 0
 
 -- the fault of a call that is lent a sheet and a flow row for one place
-unfoldable pub flowFault : List ℕ → ℕ → List ℕ → ℕ
+unfoldable pub flowFault : List ℕ → ℕ → List ℕ → Fault
 flowFault s p row = rowFault (placeFault s p) row (flowLength s)

@@ -1,24 +1,26 @@
 // The chain of faults of a call, one link after another: the sheet's own, then a place's, then each lent row's. A lower fault is handed on.
-ghost use mathlib.Core.Path.{_≡_};
 ghost use lib.Dec.{leb, ltb};
-ghost use Rattle.calls.specs.Call.{nextFault};
 ghost use Rattle.calls.specs.Refusal.{Next};
 use fault::Examined;
 use ids::Place;
+use sheet::no_fault;
+use sheet::plain_fault;
 
-// The fault k after those that an examination found, if a test finds it.
+// The fault k after those that an examination found, if a test finds it. It has no item.
 fn next(e: Examined, found: bool, k: u32) -> Examined
     ensures { λ r. ⌜ Next e found k r ⌝ }
 {
     let lower = e.fault;
-    if lower != 0 {
+    if lower.number != 0 {
         return e;
     }
+    let layout = e.layout;
     if found {
-        let layout = e.layout;
-        return Examined { fault: k, layout };
+        let fault = plain_fault(k);
+        return Examined { fault, layout };
     }
-    e
+    let fault = no_fault();
+    Examined { fault, layout }
 }
 
 // 12: the place number isn't in the net.

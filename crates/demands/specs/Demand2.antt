@@ -3,9 +3,10 @@
 use Prim.Native.Nat.{ℕ, _+_, _≤_, _<_}
 use native.Mathlib.Nat.{eq-zero-or-pos}
 use native.Mathlib.Omega.{arith}
-use mathlib.Core.Bool.{Bool, true, false, cond, _&&_}
+use mathlib.Core.Bool.{Bool, true, false, true≢false, cond, _&&_}
 use mathlib.Core.List.{List}
 use mathlib.Core.Logic.{⊎-elim, _↔_}
+use mathlib.Core.Option.{Option·none-ne-some, Option·some-injective}
 use mathlib.Core.Path.{_≡_, refl, sym, ap, subst, _∙_}
 use borrow.Author.Tests.{lt-ltb}
 use lib.Dec.{T, eqb, eqb→eq, eqb-refl, ltb, ltb→lt}
@@ -26,13 +27,15 @@ use Rattle.calls.specs.Call.{placeFault, row-known, place-known}
 use Rattle.calls.specs.FlowRow.{flowFault, flowLength, flowOf}
 use Rattle.calls.specs.Overwritten.{over-first, at-none}
 use Rattle.place_judgement.specs.Handed.{doneMark}
+use Rattle.calls.specs.Said.{Said, answer, said-answer}
 use Rattle.flowcheck.specs.declared.Checked.{Checked}
-use Rattle.flowcheck.specs.declared.Checked.the-variants.{Valid, Invalid, Fault as Refused}
-use Rattle.flowcheck.specs.Checked.{checkedOf, saysYes, checked-yes}
+use Rattle.flowcheck.specs.declared.Checked.the-variants.{Valid, Invalid, Refused as Declined}
+use Rattle.flowcheck.specs.Checked.{checkSays, says as saysChecked}
 use Rattle.place_judgement.specs.declared.Judgement.{Judgement}
-use Rattle.place_judgement.specs.declared.Judgement.the-variants.{Fault, Runs, Short}
-use Rattle.place_judgement.specs.Judgement.{missingIn, answer, judgeFault, judgementOf, judgement-missing, marksAfter, Handed}
-use Rattle.plan_judgement.specs.Judgement.{planFault, answerOf}
+use Rattle.place_judgement.specs.declared.Judgement.the-variants.{Refused, Runs, Short}
+use Rattle.place_judgement.specs.Judgement.{PlaceValues, says, judgeFault, valuesAt, judgementSays, marksAfter, Handed}
+use Rattle.plan_judgement.specs.declared.Answer.{Answer}
+use Rattle.plan_judgement.specs.Judgement.{planFault, planSays, says as saysPlan}
 use Rattle.reedanchor.specs.Till.{tillAnswer}
 use Rattle.demands.specs.Whole.{TellsVerdict, SaysRuns, SaysShort, plan-tells, till-tells}
 
@@ -40,66 +43,90 @@ use Rattle.demands.specs.Whole.{TellsVerdict, SaysRuns, SaysShort, plan-
 abbrev pub doneIn : ℕ → List ℕ → Set
 doneIn n marks v = ltb v n && eqb (getD marks v 0) 1
 
--- What demand 2 says of a call of the place judgement.
-pub record Published (s : List ℕ) (p : ℕ) (flow marks : List ℕ) : Type 0 where
+-- What demand 2 says of an answer of the place judgement.
+pub record Published (s : List ℕ) (p : ℕ) (flow marks : List ℕ) (r : Judgement) : Type 0 where
   -- "The verdict is the published one for labelled partial orders": yes exactly if every cut is enabled (001, definition 6; 003,
   -- definition 3), and exactly if a valid compact tokenflow exists (003, theorems 2 to 4).
-  pub by-cuts : (judgementOf s p flow marks ≡ Runs) ↔ Executable (netOf s) (planOf s) p
-  pub by-flows : (judgementOf s p flow marks ≡ Runs) ↔ ((x : Flow) × T (valid (netOf s) (planOf s) p x))
+  pub by-cuts : (r ≡ Runs) ↔ Executable (netOf s) (planOf s) p
+  pub by-flows : (r ≡ Runs) ↔ ((x : Flow) × T (valid (netOf s) (planOf s) p x))
   -- "A yes at a place hands over a valid compact tokenflow,
-  pub yes : judgementOf s p flow marks ≡ Runs → (flow′ : List ℕ) → Handed s p flow marks flow′ → T (valid (netOf s) (planOf s) p (flowOf flow′))
+  pub yes : r ≡ Runs → (flow′ : List ℕ) → Handed s p flow marks flow′ → T (valid (netOf s) (planOf s) p (flowOf flow′))
   -- a no the smallest done set at which most tokens lack."
-  pub no : (m : ℕ) → judgementOf s p flow marks ≡ Short m → IsSmallest (netOf s) (planOf s) p (doneIn (eventsOf s) (marksAfter s p flow marks))
+  pub no : (m : ℕ) → r ≡ Short m → IsSmallest (netOf s) (planOf s) p (doneIn (eventsOf s) (marksAfter s p flow marks))
 
--- Demand 2.
+-- Demand 2, of every answer r that says what the call's contract promises.
 pub record Demand2 : Type 0 where
-  pub judged : (s : List ℕ) (p : ℕ) (flow marks : List ℕ) → judgeFault s p flow marks ≡ 0 → Published s p flow marks
+  pub judged : (s : List ℕ) (p : ℕ) (flow marks : List ℕ) (r : Judgement) → says r ≡ judgementSays s p flow marks → judgeFault s p flow marks .number ≡ 0
+      → Published s p flow marks r
   -- The same verdict on the whole plan, by the plan judgement and by the number that the till server gets.
-  pub plan : (s row : List ℕ) → planFault s row ≡ 0 → TellsVerdict s (SaysRuns (answerOf s row)) (SaysShort (answerOf s row))
-  pub till : (s : List ℕ) → faultOf s ≡ 0 → TellsVerdict s (tillAnswer s ≡ 0) (λ p. tillAnswer s ≡ 1000 + p)
+  pub plan : (s row : List ℕ) (r : Answer) → saysPlan r ≡ planSays s row → planFault s row .number ≡ 0 → TellsVerdict s (SaysRuns r) (SaysShort r)
+  pub till : (s : List ℕ) → faultOf s .number ≡ 0 → TellsVerdict s (tillAnswer s ≡ 0) (λ p. tillAnswer s ≡ 1000 + p)
   -- "A flow drawn up elsewhere is passed exactly if valid."
-  pub passed : (s : List ℕ) (p : ℕ) (row : List ℕ) → flowFault s p row ≡ 0 → (checkedOf s p row ≡ Valid) ↔ T (valid (netOf s) (planOf s) p (flowOf row))
+  pub passed : (s : List ℕ) (p : ℕ) (row : List ℕ) (r : Checked) → saysChecked r ≡ checkSays s p row → flowFault s p row .number ≡ 0
+      → (r ≡ Valid) ↔ T (valid (netOf s) (planOf s) p (flowOf row))
 
 -- ---- the proof
 
-abbrev isShort : Judgement → ℕ
-isShort (Fault k) = 0
-isShort Runs = 0
-isShort (Short m) = 1
+abbrev isRuns : Judgement → Bool
+isRuns (Refused f) = false
+isRuns Runs = true
+isRuns (Short m) = false
 
-yes-is : (c : Checked) → saysYes c ≡ true → c ≡ Valid
-yes-is (Refused k) e = absurd (subst T (sym e) tt)
-yes-is Valid e = refl
-yes-is Invalid e = absurd (subst T (sym e) tt)
+abbrev isValid : Checked → Bool
+isValid (Declined f) = false
+isValid Valid = true
+isValid Invalid = false
+
+-- the case of an answer by its values
+runs-by : (r : Judgement) (x : PlaceValues) → says r ≡ answer x → (r ≡ Runs) ↔ (x .runs ≡ true)
+runs-by (Refused f) x e = absurd (Option·none-ne-some x (ap (λ (said : Said PlaceValues). said .values) e))
+runs-by Runs x e =
+    let is = Option·some-injective _ x (ap (λ (said : Said PlaceValues). said .values) e) in
+    (λ _. ap (λ (v : PlaceValues). v .runs) (sym is), λ _. refl)
+runs-by (Short m) x e =
+    let is = Option·some-injective _ x (ap (λ (said : Said PlaceValues). said .values) e) in
+    let not : x .runs ≡ false = ap (λ (v : PlaceValues). v .runs) (sym is) in
+    (λ same. ap (λ (v : PlaceValues). v .runs) (sym is) ∙ ap isRuns same, λ yes. absurd (true≢false (sym yes ∙ not)))
+
+yes-by : (r : Checked) (b : Bool) → saysChecked r ≡ answer b → (r ≡ Valid) ↔ T b
+yes-by (Declined f) b e = absurd (Option·none-ne-some b (ap (λ (said : Said Bool). said .values) e))
+yes-by Valid b e = (λ _. subst T (Option·some-injective true b (ap (λ (said : Said Bool). said .values) e)) tt, λ _. refl)
+yes-by Invalid b e =
+    let is = Option·some-injective false b (ap (λ (said : Said Bool). said .values) e) in
+    (λ same. absurd (true≢false (sym (ap isValid same))), λ t. absurd (subst T (sym is) t))
 
 one-is : (b : Bool) → T (eqb (cond {A = ℕ} b 1 0) 1) ↔ T b
 one-is true = (λ t. tt, λ t. tt)
 one-is false = (λ t. t, λ t. absurd t)
 
-module _ (s : List ℕ) (p : ℕ) (flow marks : List ℕ) (none : judgeFault s p flow marks ≡ 0) where
-  runs-none : (judgementOf s p flow marks ≡ Runs) ↔ (missing (netOf s) (planOf s) p ≡ 0)
-  unfolding judgementOf answer
-  runs-none = (λ e. sym (judgement-missing s p flow marks none) ∙ ap missingIn e, λ e. simp (none, e))
+module _ (s : List ℕ) (p : ℕ) (flow marks : List ℕ) (r : Judgement) (told : says r ≡ judgementSays s p flow marks) (none : judgeFault s p flow marks .number ≡ 0) where
+  runs-at : (r ≡ Runs) ↔ T (runsAt (netOf s) (planOf s) p)
+  unfolding judgementSays
+  runs-at =
+      let case = runs-by r (valuesAt s p) (told ∙ said-answer (judgeFault s p flow marks) (valuesAt s p) none) in (
+        λ e. subst T (sym (case .0 e)) tt,
+        λ t. case .1 (same (runsAt (netOf s) (planOf s) p) true (λ _. tt) (λ _. t)),
+      )
 
-  runs-at : (judgementOf s p flow marks ≡ Runs) ↔ T (runsAt (netOf s) (planOf s) p)
+  runs-none : (r ≡ Runs) ↔ (missing (netOf s) (planOf s) p ≡ 0)
   unfolding runsAt
-  runs-at = (
-    λ e. subst (λ (m : ℕ). T (eqb m 0)) (sym (runs-none .0 e)) (eqb-refl 0),
-    λ t. runs-none .1 (eqb→eq (missing (netOf s) (planOf s) p) 0 t),
+  runs-none = (
+    λ e. eqb→eq (missing (netOf s) (planOf s) p) 0 (runs-at .0 e),
+    λ e. runs-at .1 (subst (λ (m : ℕ). T (eqb m 0)) (sym e) (eqb-refl 0)),
   )
 
-  short-some : (m : ℕ) → judgementOf s p flow marks ≡ Short m → 0 < missing (netOf s) (planOf s) p
+  short-some : (m : ℕ) → r ≡ Short m → 0 < missing (netOf s) (planOf s) p
   short-some m e =
       ⊎-elim
-      (λ z. let no : ⊥ = omega (arith, ap isShort (sym e ∙ runs-none .1 z)) in absurd no)
+      (λ z. absurd (true≢false (sym (ap isRuns (sym e ∙ runs-none .1 z)))))
       (λ l. l)
       (eq-zero-or-pos (missing (netOf s) (planOf s) p))
 
-  known : (flowFault s p flow ≡ 0) × (eventsOf s ≤ length marks)
+  known : (flowFault s p flow .number ≡ 0) × (eventsOf s ≤ length marks)
   unfolding judgeFault
   known = row-known (flowFault s p flow) marks (eventsOf s) none
 
-  taken : faultOf s ≡ 0
+  taken : faultOf s .number ≡ 0
   unfolding flowFault
   taken = place-known s p (row-known (placeFault s p) flow (flowLength s) (known .0) .0) .0
 
@@ -110,7 +137,7 @@ module _ (s : List ℕ) (p : ℕ) (flow marks : List ℕ) (none : judgeFault s p
     mark-is : (v : ℕ) → v < eventsOf s → getD (marksAfter s p flow marks) v 0 ≡ cond (smallest (netOf s) (planOf s) p v) 1 0
     unfolding marksAfter doneMark
     mark-is v l =
-        ap (λ (row : List ℕ). getD row v 0) (sym (at-none (judgeFault s p flow marks) _ marks none))
+        ap (λ (row : List ℕ). getD row v 0) (sym (at-none (judgeFault s p flow marks .number) _ marks none))
         ∙ over-first (doneMark (netOf s) (planOf s) p) (eventsOf s) marks v l (omega (arith, known .1))
         ∙ ap (λ (b : Bool). cond {A = ℕ} (b && smallest (netOf s) (planOf s) p v) 1 0) (lt-ltb 0 (missing (netOf s) (planOf s) p) short)
 
@@ -128,7 +155,7 @@ module _ (s : List ℕ) (p : ℕ) (flow marks : List ℕ) (none : judgeFault s p
         let h = and-yes (ltb v (eventsOf s)) (eqb mark 1) t in
         one-is D .0 (subst (λ (m : ℕ). T (eqb m 1)) (mark-is v (ltb→lt v (eventsOf s) (h .0))) (h .1)))
 
-  published : Published s p flow marks
+  published : Published s p flow marks r
   published =
       let v = verdict (netOf s) (planOf s) p (sound s (faultless s taken)) in
       record {
@@ -142,14 +169,10 @@ module _ (s : List ℕ) (p : ℕ) (flow marks : List ℕ) (none : judgeFault s p
             (smallest-known (short-some m e));
       }
 
+check-passes : (s : List ℕ) (p : ℕ) (row : List ℕ) (r : Checked) → saysChecked r ≡ checkSays s p row → flowFault s p row .number ≡ 0
+    → (r ≡ Valid) ↔ T (valid (netOf s) (planOf s) p (flowOf row))
+unfolding checkSays
+check-passes s p row r told none = yes-by r _ (told ∙ said-answer (flowFault s p row) _ none)
+
 pub demand-2 : Demand2
-demand-2 =
-    record {
-      judged = published;
-      plan = plan-tells;
-      till = till-tells;
-      passed = λ s p row none. (
-        λ e. subst T (sym (ap saysYes e) ∙ checked-yes s p row none) tt,
-        λ t. yes-is (checkedOf s p row) (checked-yes s p row none ∙ same (valid (netOf s) (planOf s) p (flowOf row)) true (λ _. tt) (λ _. t)),
-      );
-    }
+demand-2 = record { judged = published; plan = plan-tells; till = till-tells; passed = check-passes }

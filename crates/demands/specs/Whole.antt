@@ -1,11 +1,12 @@
 -- What demand 2 says of the verdict on a whole plan, by whichever call it is told.
-use Prim.Native.Nat.{ℕ, zero, suc, _+_, _<_}
-use native.Mathlib.Nat.{eq-or-lt-of-le}
+use Prim.Native.Nat.{ℕ, _+_, _<_}
+use native.Mathlib.Nat.{eq-zero-or-pos}
 use native.Mathlib.Omega.{arith}
 use mathlib.Core.List.{List}
 use mathlib.Core.Logic.{_↔_, ⊎-elim}
-use mathlib.Core.Path.{_≡_, ap, subst}
-use lib.Dec.{T, not-T, ltb, ltb→lt, nltb→le}
+use mathlib.Core.Option.{Option·none-ne-some}
+use mathlib.Core.Path.{_≡_, refl, sym, ap, _∙_}
+use lib.Dec.{T}
 use Rattle.plan.specs.Prefix.{runs}
 use Rattle.plan.specs.Cut.{Executable, Execution}
 use Rattle.plan.specs.Flow.{Flow, valid}
@@ -15,17 +16,19 @@ use Rattle.sheet.specs.Items.{netOf, planOf}
 use Rattle.sheet.specs.Faults.{faultOf}
 use Rattle.sheet.specs.Faultless.{faultless, sound}
 use Rattle.calls.specs.Call.{row-known}
+use Rattle.calls.specs.Said.{Said, said-answer}
 use Rattle.place.specs.Place.{missingAt}
 use Rattle.summary.specs.declared.Verdict.{Verdict}
 use Rattle.summary.specs.declared.Verdict.the-variants.{Runs, Short}
-use Rattle.summary.specs.Summary.{verdictOf}
-use Rattle.summary.specs.Laws.{VerdictSays, verdict-says, verdict-runs}
+use Rattle.summary.specs.Summary.{PlanValues, firstShort, shortNumber, verdictNumber, valuesOf}
+use Rattle.summary.specs.Laws.{FirstIn, runs-number, short-number}
 use Rattle.plan_judgement.specs.declared.Answer.{Answer}
-use Rattle.plan_judgement.specs.declared.Answer.the-variants.{Fault, Judged}
-use Rattle.plan_judgement.specs.Judgement.{planFault, totalsOf, answer, answerOf}
+use Rattle.plan_judgement.specs.declared.Answer.the-variants.{Refused, Judged}
+use Rattle.plan_judgement.specs.Judgement.{planFault, planValues, planSays, says as saysPlan}
 use Rattle.plan_judgement.specs.Laws.{runs-told}
 use Rattle.reedanchor.specs.Till.{tillAnswer}
-use Rattle.reedanchor.specs.Laws.{till-runs, till-short}
+use Rattle.reedanchor.specs.Laws.{till-taken}
+use Rattle.demands.specs.Returned.{totals-are}
 
 -- The plan of the sheet s doesn't run at its place p, and does at every place before it.
 pub record FirstShort (s : List ℕ) (p : ℕ) : Type 0 where
@@ -46,18 +49,19 @@ pub record TellsVerdict (s : List ℕ) (yes : Type 0) (no : ℕ → Type 0) : Ty
 
 -- What the plan judgement's answer says.
 abbrev pub SaysRuns : Answer → Type 0
-SaysRuns (Fault k) = ⊥
+SaysRuns (Refused f) = ⊥
 SaysRuns (Judged totals) = totals .verdict ≡ Runs
 
 abbrev pub SaysShort : Answer → ℕ → Type 0
-SaysShort (Fault k) p = ⊥
+SaysShort (Refused f) p = ⊥
 SaysShort (Judged totals) p = (m : ℕ) × (totals .verdict ≡ Short (record { 0 = p }) m)
 
--- ---- the proof, from what the verdict on the missing counts says
+-- ---- the proof, from what the number of the verdict says
 
-module _ (s : List ℕ) (taken : faultOf s ≡ 0) where
-  abbrev told : Verdict
-  told = verdictOf (missingAt s) (placesOf s)
+module _ (s : List ℕ) (taken : faultOf s .number ≡ 0) where
+  -- the number of the verdict that is due
+  abbrev due : ℕ
+  due = shortNumber (firstShort (missingAt s) (placesOf s))
 
   at-place : (p : ℕ) → Executable (netOf s) (planOf s) p ↔ (missingAt s p ≡ 0)
   at-place p =
@@ -65,61 +69,74 @@ module _ (s : List ℕ) (taken : faultOf s ≡ 0) where
       let n = runs-none (netOf s) (planOf s) p in
       (λ x. n .0 (v .by-cuts .1 x), λ e. v .by-cuts .0 (n .1 e))
 
-  short-first : (p m : ℕ) → told ≡ Short (record { 0 = p }) m → FirstShort s p
-  short-first p m e =
-      let says = subst (VerdictSays (missingAt s) (placesOf s)) e (verdict-says (missingAt s) (placesOf s)) in
+  first-is : (p : ℕ) → FirstIn (missingAt s) (placesOf s) p ↔ FirstShort s p
+  first-is p = (
+    λ f.
+        record {
+          place = f .0;
+          here = λ x. omega (arith, f .1 .short, at-place p .0 x);
+          before = λ q l. at-place q .1 (f .1 .before q l);
+        },
+    λ f. (
+      f .place,
       record {
-        place = says .0;
-        here = λ x. omega (arith, says .1, says .2, at-place p .0 x);
-        before = λ q l. at-place q .1 (says .3 q l);
-      }
+        short = ⊎-elim (λ z. absurd (f .here (at-place p .1 z))) (λ l. l) (eq-zero-or-pos (missingAt s p));
+        before = λ q l. at-place q .0 (f .before q l);
+      },
+    ),
+  )
 
-  first-short : (p : ℕ) (v : Verdict) → VerdictSays (missingAt s) (placesOf s) v → FirstShort s p → (m : ℕ) × (v ≡ Short (record { 0 = p }) m)
-  first-short p Runs says f = absurd (f .here (at-place p .1 (says p (f .place))))
-  first-short p (Short q m) says f =
-      let same : q .0 ≡ p =
-      ⊎-elim
-      (λ e. e)
-      (λ l. absurd (omega (arith, says .1, says .2, at-place (q .0) .0 (f .before (q .0) l))))
-      (eq-or-lt-of-le (nltb→le p (q .0) (not-T (ltb p (q .0)) (λ t. f .here (at-place p .1 (says .3 p (ltb→lt p (q .0) t)))))))
-      in
-      (m, ap (λ (n : ℕ). Short (record { 0 = n }) m) same)
-
-  first-is : (p : ℕ) → ((m : ℕ) × (told ≡ Short (record { 0 = p }) m)) ↔ FirstShort s p
-  first-is p = (λ h. short-first p (h .0) (h .1), first-short p told (verdict-says (missingAt s) (placesOf s)))
-
-  runs-is : (told ≡ Runs) ↔ T (runs (netOf s) (planOf s))
-  unfolding totalsOf
+  runs-is : (due ≡ 0) ↔ T (runs (netOf s) (planOf s))
+  unfolding planValues valuesOf
   runs-is = runs-told s
 
-  -- a call whose answers are told by the verdict
-  tells : {yes : Type 0} {no : ℕ → Type 0} → yes ↔ (told ≡ Runs) → ((p : ℕ) → no p ↔ ((m : ℕ) × (told ≡ Short (record { 0 = p }) m))) → TellsVerdict s yes no
+  -- a call whose answers tell the number
+  tells : {yes : Type 0} {no : ℕ → Type 0} → yes ↔ (due ≡ 0) → ((p : ℕ) → no p ↔ (due ≡ 1000 + p)) → TellsVerdict s yes no
   tells yes-is no-is =
       let v = plan-verdict (netOf s) (planOf s) (sound s (faultless s taken)) in
       let back : T (runs (netOf s) (planOf s)) → _ = λ t. yes-is .1 (runs-is .1 t) in
+      let short = short-number (missingAt s) (placesOf s) in
       record {
         by-cuts = (λ y. v .by-cuts .0 (runs-is .0 (yes-is .0 y)), λ x. back (v .by-cuts .1 x));
         by-flows = (λ y. v .by-flows .0 (runs-is .0 (yes-is .0 y)), λ x. back (v .by-flows .1 x));
-        first = λ p. (λ n. first-is p .0 (no-is p .0 n), λ f. no-is p .1 (first-is p .1 f));
-        no-places = λ none. yes-is .1 (verdict-runs (missingAt s) (placesOf s) .1 (λ p l. absurd (omega arith)));
+        first = λ p. (λ n. first-is p .0 (short p .0 (no-is p .0 n)), λ f. no-is p .1 (short p .1 (first-is p .1 f)));
+        no-places = λ empty. yes-is .1 (runs-number (missingAt s) (placesOf s) .1 (λ p l. absurd (omega arith)));
       }
 
+-- a verdict by its number
+number-runs : (v : Verdict) → (v ≡ Runs) ↔ (verdictNumber v ≡ 0)
+number-runs Runs = (λ e. refl, λ e. refl)
+number-runs (Short p m) = (λ e. ap verdictNumber e, λ e. absurd (omega arith))
+
+number-short : (v : Verdict) (p : ℕ) → ((m : ℕ) × (v ≡ Short (record { 0 = p }) m)) ↔ (verdictNumber v ≡ 1000 + p)
+number-short Runs p = (λ h. ap verdictNumber (h .1), λ e. absurd (omega arith))
+number-short (Short q m) p = (
+  λ h. ap verdictNumber (h .1),
+  λ e. let same : q .0 ≡ p = omega arith in (m, ap (λ (n : ℕ). Short (record { 0 = n }) m) same),
+)
+
 -- The plan judgement tells it,
-answer-tells : (s : List ℕ) (k : ℕ) → faultOf s ≡ 0 → k ≡ 0 → TellsVerdict s (SaysRuns (answer k (totalsOf s))) (SaysShort (answer k (totalsOf s)))
-unfolding answer totalsOf
-answer-tells s zero taken none = tells s taken (λ e. e, λ e. e) (λ p. (λ h. h, λ h. h))
-answer-tells s (suc k) taken none = absurd (omega arith)
-
-pub plan-tells : (s row : List ℕ) → planFault s row ≡ 0 → TellsVerdict s (SaysRuns (answerOf s row)) (SaysShort (answerOf s row))
-unfolding answerOf planFault
-plan-tells s row none =
-    answer-tells s (planFault s row) (row-known (faultOf s) row (placesOf s) none .0) none
-
--- and so does the till server's call, by its number.
-pub till-tells : (s : List ℕ) → faultOf s ≡ 0 → TellsVerdict s (tillAnswer s ≡ 0) (λ p. tillAnswer s ≡ 1000 + p)
-till-tells s taken =
+answer-tells : (s row : List ℕ) (r : Answer) → saysPlan r ≡ planSays s row → planFault s row .number ≡ 0 → faultOf s .number ≡ 0 → TellsVerdict s (SaysRuns r) (SaysShort r)
+unfolding planSays
+answer-tells s row (Refused f) told clear taken =
+    absurd
+    (Option·none-ne-some (planValues s) (ap (λ (said : Said PlanValues). said .values) (told ∙ said-answer (planFault s row) (planValues s) clear)))
+answer-tells s row (Judged totals) told clear taken =
+    let is = totals-are s row totals told .0 in
+    let v = totals .verdict in
     tells
     s
     taken
-    (λ e. runs-is s taken .1 (till-runs s .0 e .1), λ e. till-runs s .1 (taken, runs-is s taken .0 e))
-    (till-short s taken)
+    (λ e. sym is ∙ number-runs v .0 e, λ e. number-runs v .1 (is ∙ e))
+    (λ p. (λ h. sym is ∙ number-short v p .0 h, λ e. number-short v p .1 (is ∙ e)))
+
+pub plan-tells : (s row : List ℕ) (r : Answer) → saysPlan r ≡ planSays s row → planFault s row .number ≡ 0 → TellsVerdict s (SaysRuns r) (SaysShort r)
+unfolding planFault
+plan-tells s row r told clear =
+    answer-tells s row r told clear (row-known (faultOf s) row (placesOf s) clear .0)
+
+-- and so does the till server's call, by its number.
+pub till-tells : (s : List ℕ) → faultOf s .number ≡ 0 → TellsVerdict s (tillAnswer s ≡ 0) (λ p. tillAnswer s ≡ 1000 + p)
+till-tells s taken =
+    let is = till-taken s taken in
+    tells s taken (λ e. sym is ∙ e, λ e. is ∙ e) (λ p. (λ e. sym is ∙ e, λ e. is ∙ e))

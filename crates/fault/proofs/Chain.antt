@@ -1,40 +1,33 @@
--- The fault from 5 on that is told, by what each test said.
+-- The faults from 5 on, one part after another: what is left to tell where the parts so far found nothing.
 use Prim.Native.Nat.{ℕ}
-use mathlib.Core.Bool.{true, false}
 use mathlib.Core.List.{List}
-use mathlib.Core.Path.{_≡_}
+use mathlib.Core.Path.{_≡_, refl, sym, ap, _∙_}
+use Rattle.sheet.specs.Told.{tell, orElse, else-first, else-next}
+use Rattle.sheet.specs.declared.Fault.{Fault}
 use Rattle.sheet.specs.Faults.{overOpening, overWeight, noTransition, noEvent, selfPair, itemFaults, orderFaults, contentFaults, firstFault}
 
-module _ (s : List ℕ) where
-  -- k is what is told of the sheet
-  abbrev Told : ℕ → Type 0
-  Told k = k ≡ firstFault contentFaults s
+-- the faults from each number on
+abbrev pub from9 : List ℕ → Fault
+from9 s = orElse (tell 9 (selfPair s)) (firstFault orderFaults s)
 
-  pub fault-5 : overOpening s ≡ true → Told 5
-  unfolding contentFaults itemFaults firstFault
-  fault-5 a = simp a
+abbrev pub from8 : List ℕ → Fault
+from8 s = orElse (tell 8 (noEvent s)) (from9 s)
 
-  module _ (no-5 : overOpening s ≡ false) where
-    pub fault-6 : overWeight s ≡ true → Told 6
-    unfolding contentFaults itemFaults firstFault
-    fault-6 a = simp (no-5, a)
+abbrev pub from7 : List ℕ → Fault
+from7 s = orElse (tell 7 (noTransition s)) (from8 s)
 
-    module _ (no-6 : overWeight s ≡ false) where
-      pub fault-7 : noTransition s ≡ true → Told 7
-      unfolding contentFaults itemFaults firstFault
-      fault-7 a = simp (no-5, no-6, a)
+abbrev pub from6 : List ℕ → Fault
+from6 s = orElse (tell 6 (overWeight s)) (from7 s)
 
-      module _ (no-7 : noTransition s ≡ false) where
-        pub fault-8 : noEvent s ≡ true → Told 8
-        unfolding contentFaults itemFaults firstFault
-        fault-8 a = simp (no-5, no-6, no-7, a)
+pub from-5 : (s : List ℕ) → firstFault contentFaults s ≡ orElse (tell 5 (overOpening s)) (from6 s)
+unfolding contentFaults itemFaults firstFault
+from-5 s = refl
 
-        module _ (no-8 : noEvent s ≡ false) where
-          pub fault-9 : selfPair s ≡ true → Told 9
-          unfolding contentFaults itemFaults firstFault
-          fault-9 a = simp (no-5, no-6, no-7, no-8, a)
+module _ {all f r : Fault} (g : Fault) (so-far : all ≡ orElse f g) (is : r ≡ f) where
+  -- a part found something, and that is told
+  pub here : ¬ (r .number ≡ 0) → r ≡ all
+  here there = sym (so-far ∙ ap (λ (h : Fault). orElse h g) (sym is) ∙ else-first r g there)
 
-          -- what the faults of the order tell
-          pub fault-rest : selfPair s ≡ false → (k : ℕ) → k ≡ firstFault orderFaults s → Told k
-          unfolding contentFaults itemFaults firstFault
-          fault-rest a k e = simp (no-5, no-6, no-7, no-8, a) e
+  -- a part found nothing, and leaves it to those that follow
+  pub later : r .number ≡ 0 → all ≡ g
+  later clear = so-far ∙ ap (λ (h : Fault). orElse h g) (sym is) ∙ else-next r g clear

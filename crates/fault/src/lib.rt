@@ -16,52 +16,56 @@ use layout::layout_fault;
 use layout::layout_of;
 use layout::no_layout;
 use order::order_fault;
+use sheet::Fault;
 
-mod items; // items.rt: the tests of faults 5 to 9
-
-// What a sheet was found to be: its fault, 0 for none, and its layout, with no items where faults 1 to 4 leave it without one.
+// What a sheet was found to be: its fault, and its layout, with no items where a fault of the layout leaves it without one.
 pub struct Examined {
-    pub fault: u32,
+    pub fault: Fault,
     pub layout: Layout,
 }
 
-// The first of faults 5 to 11, 0 for none. Faults 1 to 4 are absent.
-fn content_fault(s: &[u8], l: Layout, succ: &mut [u32; ROWS], pred: &mut [u32; ROWS]) -> u32
+// The first of faults 5 to 11. The layout has no fault.
+fn content_fault(s: &[u8], l: Layout, succ: &mut [u32; ROWS], pred: &mut [u32; ROWS]) -> Fault
     requires { ⌜ LaidBy (now s) l ⌝ }
     requires { ⌜ Blank (now succ) × Blank (now pred) ⌝ }
     ensures { λ r. ⌜ r ≡ firstFault contentFaults (now (s .entry)) ⌝ }
-    ensures { λ r. ⌜ (r ≡ 0 → OrderRows (planOf (now (s .entry))) (is succ) (is pred)) ⌝ }
+    ensures { λ r. ⌜ (r .number ≡ 0 → OrderRows (planOf (now (s .entry))) (is succ) (is pred)) ⌝ }
 {
-    if over_opening(s, l) {
-        return 5;
+    let opening = over_opening(s, l);
+    if opening.number != 0 {
+        return opening;
     }
-    if over_weight(s, l) {
-        return 6;
+    let weight = over_weight(s, l);
+    if weight.number != 0 {
+        return weight;
     }
-    if no_transition(s, l) {
-        return 7;
+    let label = no_transition(s, l);
+    if label.number != 0 {
+        return label;
     }
-    if no_event(s, l) {
-        return 8;
+    let end = no_event(s, l);
+    if end.number != 0 {
+        return end;
     }
-    if self_pair(s, l) {
-        return 9;
+    let itself = self_pair(s, l);
+    if itself.number != 0 {
+        return itself;
     }
     order_fault(s, l, succ, pred)
 }
 
-// The fault of a sheet, 0 for none: then the layout is the sheet's, `succ` marks what is after each event and `pred` what is before it, so that
-// a caller need not work them out again.
+// The fault of a sheet. If there is none, the layout is the sheet's, `succ` marks what is after each event and `pred` what is before it, so
+// that a caller need not work them out again.
 pub fn examine(s: &[u8], succ: &mut [u32; ROWS], pred: &mut [u32; ROWS]) -> Examined
     requires { ⌜ Blank (now succ) × Blank (now pred) ⌝ }
     ensures { λ r. ⌜ r .fault ≡ faultOf (now (s .entry)) ⌝ }
     ensures { λ r. ⌜ WithinLimits (r .layout) ⌝ }
-    ensures { λ r. ⌜ (r .fault ≡ 0 → LayoutOf (now (s .entry)) (r .layout) × OrderRows (planOf (now (s .entry))) (is succ) (is pred)) ⌝ }
+    ensures { λ r. ⌜ (r .fault .number ≡ 0 → LayoutOf (now (s .entry)) (r .layout) × OrderRows (planOf (now (s .entry))) (is succ) (is pred)) ⌝ }
 {
-    let k = layout_fault(s);
-    if k != 0 {
+    let misplaced = layout_fault(s);
+    if misplaced.number != 0 {
         return Examined {
-            fault: k,
+            fault: misplaced,
             layout: no_layout(),
         };
     }
@@ -72,8 +76,8 @@ pub fn examine(s: &[u8], succ: &mut [u32; ROWS], pred: &mut [u32; ROWS]) -> Exam
     }
 }
 
-// The fault of a sheet, 0 for none.
-pub fn fault_of(s: &[u8]) -> u32
+// The fault of a sheet, its number and its item, both 0 for none.
+pub fn fault_of(s: &[u8]) -> Fault
     ensures { λ r. ⌜ r ≡ faultOf (now (s .entry)) ⌝ }
 {
     let mut succ = [0u32; ROWS];

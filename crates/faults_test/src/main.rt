@@ -1,4 +1,4 @@
-// Reads cases from standard input, and prints the fault of each sheet and the case's name.
+// Reads cases from standard input, and prints the number and the item of each sheet's fault, and the case's name.
 // A case is the length of its name (1 byte), the length of its sheet (2 bytes, the lower first), the name, the sheet. The files
 // stdin and stdout are written by tests/fault_cases.py, which works out the faults by itself.
 ghost use Prim.Native.Nat.{_<_};
@@ -26,7 +26,10 @@ fn print(buf: &[u8], n: usize) {
 
 fn print_fault(buf: &[u8], n: usize) {
     if n <= buf.len() {
-        io::print_decimal(1, fault_of(&buf[0..n]) as u64);
+        let found = fault_of(&buf[0..n]);
+        io::print_decimal(1, found.number as u64);
+        io::write_all(1, b" ");
+        io::print_decimal(1, found.item as u64);
     }
 }
 

@@ -11,7 +11,7 @@ ghost use Rattle.layout.specs.Layout.{LayoutOf};
 ghost use Rattle.order.specs.Rows.{OrderRows};
 ghost use Rattle.calls.specs.FlowRow.{flowOf};
 ghost use Rattle.flow_sums.specs.Sums.{PairSums};
-ghost use Rattle.flowcheck.specs.Checked.{checkedOf};
+ghost use Rattle.flowcheck.specs.Checked.{says, checkSays};
 ghost use Rattle.flowcheck.specs.Kept.{keptAt, balanced};
 use calls::with_place;
 use calls::with_row;
@@ -30,11 +30,12 @@ use lookup::opening;
 use lookup::takes;
 use rules::covers;
 use rules::keeps;
+use sheet::Fault;
 
 mod rules; // rules.rt: the rules at one event and for the sum of the shares
 
 pub enum Checked {
-    Fault(u32),
+    Refused(Fault),
     Valid,
     Invalid,
 }
@@ -110,16 +111,16 @@ fn is_valid(
 
 // The flow check: Valid exactly if the row is valid. Any numbers may stand in it.
 pub fn check_flow(s: &[u8], p: Place, row: &[u32]) -> Checked
-    ensures { λ r. ⌜ r ≡ checkedOf (was s) (p .0) (was row) ⌝ }
+    ensures { λ r. ⌜ says r ≡ checkSays (was s) (p .0) (was row) ⌝ }
 {
     let mut succ = [0u32; ROWS];
     let mut pred = [0u32; ROWS];
     let placed = with_place(examine(s, &mut succ, &mut pred), p);
     let l = placed.layout;
     let found = with_row(placed, row.len(), l.pairs + l.events);
-    let k = found.fault;
-    if k != 0 {
-        return Checked::Fault(k);
+    let f = found.fault;
+    if f.number != 0 {
+        return Checked::Refused(f);
     }
     if is_valid(s, l, p, row, &succ, &pred) {
         Checked::Valid

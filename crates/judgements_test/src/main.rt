@@ -12,6 +12,7 @@ use place_judgement::Judgement;
 use place_judgement::judge_place;
 use plan_judgement::Answer;
 use plan_judgement::judge_plan;
+use sheet::Fault;
 use summary::Verdict;
 
 fn wide(x: u8) -> usize
@@ -51,9 +52,10 @@ fn print_bytes(row: &[u8]) {
     }
 }
 
-fn print_fault(k: u32) {
+fn print_fault(f: Fault) {
     io::write_all(1, b" fault");
-    print_word(k);
+    print_word(f.number);
+    print_word(f.item);
 }
 
 fn print_verdict(v: Verdict) {
@@ -71,8 +73,8 @@ fn print_verdict(v: Verdict) {
 
 fn print_answer(answer: Answer) {
     match answer {
-        Answer::Fault(k) => {
-            print_fault(k);
+        Answer::Refused(f) => {
+            print_fault(f);
         }
         Answer::Judged(totals) => {
             print_word(totals.total);
@@ -85,8 +87,8 @@ fn print_answer(answer: Answer) {
 
 fn print_judgement(judgement: Judgement) {
     match judgement {
-        Judgement::Fault(k) => {
-            print_fault(k);
+        Judgement::Refused(f) => {
+            print_fault(f);
         }
         Judgement::Runs => {
             io::write_all(1, b" runs");
@@ -100,8 +102,8 @@ fn print_judgement(judgement: Judgement) {
 
 fn print_checked(checked: Checked) {
     match checked {
-        Checked::Fault(k) => {
-            print_fault(k);
+        Checked::Refused(f) => {
+            print_fault(f);
         }
         Checked::Valid => {
             io::write_all(1, b" valid");

@@ -1,21 +1,23 @@
--- The tests of the table of contents, entry by entry: a wrong entry passes the test, and with three right ones the last decides.
+-- The tests of the table of contents: a wrong count passes the test, where each body is due, and which fault is told.
 use Prim.Native.Nat.{ℕ, _+_, _*_, _<_, _≤_}
 use native.Mathlib.Omega.{arith}
 use native.Mathlib.Nat.{mul-le-mul}
-use mathlib.Core.Bool.{true, false, not}
+use mathlib.Core.Bool.{Bool, true, false, not}
 use mathlib.Core.List.{List}
 use mathlib.Core.Path.{_≡_, refl, sym, ap, _∙_}
 use borrow.Author.Tests.{lt-ltb, le-ltb, ne-eqb, eq-eqb}
-use lib.Dec.{ltb, eqb}
+use lib.Dec.{ltb}
 use lib.ListN.{length}
 use Rattle.finite.specs.Bounded.{any}
 use Rattle.finite.specs.Search.{search-found}
 use Rattle.ids.specs.Limits.{mostPlaces, mostTransitions, mostEvents, mostPairs}
 use Rattle.numbers.specs.Number.{number}
 use Rattle.sheet.specs.Table.{tableLength, start, count, limit, itemLength, item, bodyEnd, due}
-use Rattle.sheet.specs.Faults.{tooShort, overLimitAt, overLimit, misplacedAt, misplaced, wrongEnd, layoutFaults, firstFault}
-use Rattle.sheet.specs.Laid.{Limited, longestSheet, starts, weights-most}
+use Rattle.sheet.specs.Faults.{tooShort, overLimitAt, overLimit, late, early, wrongEnd, layoutFaults, firstFault}
+use Rattle.sheet.specs.Told.{faultAt, noFault, tell, plain, orElse, else-first, else-next}
+use Rattle.sheet.specs.declared.Fault.{Fault}
 use Rattle.layout.specs.Layout.{placesAt, transitionsAt, eventsAt, pairsAt, LayoutOf, WithinLimits}
+use Rattle.layout.specs.Starts.{startsFault}
 use Rattle.layout.specs.declared.Layout.{Layout}
 
 -- the numbers of an entry, where the code reads them
@@ -34,10 +36,6 @@ short-is s = refl
 -- how far all items of the transitions reach
 pub weights-fit : (l : Layout) → WithinLimits l → 4 * l .places * l .transitions ≤ 4 * mostPlaces * mostTransitions
 weights-fit l within = mul-le-mul {n₁ = 4 * l .places} {n₂ = 4 * mostPlaces} (omega arith) (within .transitions)
-
-pub events-near : (l : Layout) → WithinLimits l → placesAt l ≡ tableLength → transitionsAt l ≡ placesAt l + 4 * l .places
-    → eventsAt l ≡ transitionsAt l + 4 * l .places * l .transitions → eventsAt l ≤ longestSheet
-events-near l within a b c = omega (arith, weights-fit l within)
 
 module _ (s : List ℕ) (l : Layout) (is : LayoutOf s l) where
   -- 2
@@ -63,79 +61,77 @@ module _ (s : List ℕ) (l : Layout) (is : LayoutOf s l) where
   over-last most last h i j =
       simp (last, is .pairs, le-ltb 64 (count s 0) (omega arith), le-ltb 64 (count s 1) (omega arith), le-ltb 256 (count s 2) (omega arith))
 
-  -- 3: where each body is due, by the layout
-  due-first : tableLength ≡ due s 0
+  -- where each body is due, by the layout
+  pub due-first : tableLength ≡ due s 0
   unfolding due
   due-first = refl
 
-  due-transitions : placesAt l + 4 * l .places ≡ due s 1
+  pub due-transitions : placesAt l + 4 * l .places ≡ due s 1
   unfolding due bodyEnd item itemLength
   due-transitions = omega arith
 
-  due-events : transitionsAt l + 4 * l .places * l .transitions ≡ due s 2
+  pub due-events : transitionsAt l + 4 * l .places * l .transitions ≡ due s 2
   unfolding due bodyEnd item itemLength
   due-events = simp (is .transitions-at, is .places, is .transitions)
 
-  due-pairs : eventsAt l + 2 * l .events ≡ due s 3
+  pub due-pairs : eventsAt l + 2 * l .events ≡ due s 3
   unfolding due bodyEnd item itemLength
   due-pairs = omega arith
 
-  wrong : (e : ℕ) → e < 4 → ¬ (start s e ≡ due s e) → true ≡ misplaced s
-  unfolding misplaced misplacedAt
-  wrong e h apart = search-found 4 4 (misplacedAt s) e refl h (ap not (ne-eqb (start s e) (due s e) apart))
-
-  pub wrong-places : ¬ (placesAt l ≡ tableLength) → true ≡ misplaced s
-  wrong-places h = wrong 0 (omega arith) (λ e. h (is .places-at ∙ e ∙ sym due-first))
-
-  pub wrong-transitions : ¬ (transitionsAt l ≡ placesAt l + 4 * l .places) → true ≡ misplaced s
-  wrong-transitions h = wrong 1 (omega arith) (λ e. h (is .transitions-at ∙ e ∙ sym due-transitions))
-
-  pub wrong-events : ¬ (eventsAt l ≡ transitionsAt l + 4 * l .places * l .transitions) → true ≡ misplaced s
-  wrong-events h = wrong 2 (omega arith) (λ e. h (is .events-at ∙ e ∙ sym due-events))
-
-  pub wrong-last : (at : ℕ) → at ≡ eventsAt l + 2 * l .events → placesAt l ≡ tableLength → transitionsAt l ≡ placesAt l + 4 * l .places
-      → eventsAt l ≡ transitionsAt l + 4 * l .places * l .transitions → not (eqb (pairsAt l) at) ≡ misplaced s
-  unfolding misplaced misplacedAt any
-  wrong-last at last a b c =
-      simp (
-        last,
-        is .pairs-at,
-        due-pairs,
-        eq-eqb (start s 0) (due s 0) (sym (is .places-at) ∙ a ∙ due-first),
-        eq-eqb (start s 1) (due s 1) (sym (is .transitions-at) ∙ b ∙ due-transitions),
-        eq-eqb (start s 2) (due s 2) (sym (is .events-at) ∙ c ∙ due-events),
-      )
-
   -- 4
-  pub end-is : not (eqb (length s) (pairsAt l + 4 * l .pairs)) ≡ wrongEnd s
-  unfolding wrongEnd bodyEnd item itemLength
-  end-is = simp (is .pairs-at, is .pairs)
+  end-is : pairsAt l + 4 * l .pairs ≡ bodyEnd s 3
+  unfolding bodyEnd item itemLength
+  end-is = omega arith
 
--- where faults 2 and 3 are absent the end of the last body can be added up
-pub pairs-near : (s : List ℕ) (l : Layout) → LayoutOf s l → Limited s → misplaced s ≡ false → pairsAt l ≤ longestSheet
-unfolding due bodyEnd item itemLength
-pairs-near s l is known none =
-    let at = starts s none in
-    omega (arith, weights-most s known, at 0 (omega arith), at 1 (omega arith), at 2 (omega arith), at 3 (omega arith))
+  pub ends-elsewhere : ¬ (length s ≡ pairsAt l + 4 * l .pairs) → faultAt 4 0 ≡ tell 4 (plain (wrongEnd s))
+  unfolding wrongEnd
+  ends-elsewhere apart =
+      sym (ap (λ (b : Bool). tell 4 (plain (not b))) (ne-eqb (length s) (bodyEnd s 3) (λ e. apart (e ∙ sym end-is))))
+
+  pub ends-there : length s ≡ pairsAt l + 4 * l .pairs → noFault ≡ tell 4 (plain (wrongEnd s))
+  unfolding wrongEnd
+  ends-there e = sym (ap (λ (b : Bool). tell 4 (plain (not b))) (eq-eqb (length s) (bodyEnd s 3) (e ∙ end-is)))
+
+-- 14 and 15 are looked for one after the other
+parts : (a b : Bool) (g : Fault) → orElse (tell 14 (plain a)) (orElse (tell 15 (plain b)) g) ≡ orElse (orElse (tell 14 (plain a)) (tell 15 (plain b))) g
+unfolding orElse
+parts true b g = refl
+parts false true g = refl
+parts false false g = refl
+
+last-one : (b : Bool) → orElse (tell 4 (plain b)) noFault ≡ tell 4 (plain b)
+unfolding orElse
+last-one true = refl
+last-one false = refl
 
 -- the fault that is told, by what each test said
 module _ (s : List ℕ) where
-  pub fault-1 : tooShort s ≡ true → 1 ≡ firstFault layoutFaults s
-  unfolding layoutFaults firstFault
+  -- f is what is told of the sheet
+  abbrev Told : Fault → Type 0
+  Told f = f ≡ firstFault layoutFaults s
+
+  pub fault-1 : tooShort s ≡ true → Told (faultAt 1 0)
+  unfolding layoutFaults firstFault orElse
   fault-1 a = simp a
 
-  pub fault-2 : tooShort s ≡ false → overLimit s ≡ true → 2 ≡ firstFault layoutFaults s
-  unfolding layoutFaults firstFault
-  fault-2 a b = simp (a, b)
+  module _ (no-1 : tooShort s ≡ false) where
+    pub fault-2 : overLimit s ≡ true → Told (faultAt 2 0)
+    unfolding layoutFaults firstFault orElse
+    fault-2 a = simp (no-1, a)
 
-  pub fault-3 : tooShort s ≡ false → overLimit s ≡ false → misplaced s ≡ true → 3 ≡ firstFault layoutFaults s
-  unfolding layoutFaults firstFault
-  fault-3 a b c = simp (a, b, c)
+    module _ (no-2 : overLimit s ≡ false) (f : Fault) (is : f ≡ startsFault s) where
+      -- 14 and 15 as one, then 4
+      rest : firstFault layoutFaults s ≡ orElse f (orElse (tell 4 (plain (wrongEnd s))) noFault)
+      unfolding layoutFaults firstFault startsFault
+      rest =
+          else-next (tell 1 (plain (tooShort s))) _ (ap (λ (b : Bool). tell 1 (plain b) .number) no-1)
+          ∙ else-next (tell 2 (plain (overLimit s))) _ (ap (λ (b : Bool). tell 2 (plain b) .number) no-2)
+          ∙ parts (late s) (early s) _
+          ∙ ap (λ (g : Fault). orElse g (orElse (tell 4 (plain (wrongEnd s))) noFault)) (sym is)
 
-  pub fault-4 : tooShort s ≡ false → overLimit s ≡ false → misplaced s ≡ false → wrongEnd s ≡ true → 4 ≡ firstFault layoutFaults s
-  unfolding layoutFaults firstFault
-  fault-4 a b c d = simp (a, b, c, d)
+      pub fault-starts : ¬ (f .number ≡ 0) → Told f
+      fault-starts there = sym (rest ∙ else-first f _ there)
 
-  pub no-fault : tooShort s ≡ false → overLimit s ≡ false → misplaced s ≡ false → wrongEnd s ≡ false → 0 ≡ firstFault layoutFaults s
-  unfolding layoutFaults firstFault
-  no-fault a b c d = simp (a, b, c, d)
+      -- what is told of the end
+      pub fault-end : f .number ≡ 0 → (g : Fault) → g ≡ tell 4 (plain (wrongEnd s)) → Told g
+      fault-end right g e = e ∙ sym (rest ∙ else-next f _ right ∙ last-one (wrongEnd s))

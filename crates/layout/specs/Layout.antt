@@ -1,5 +1,5 @@
 -- The layout of a sheet: that it is what the sheet's table says, and that its counts are within the limits. Document 01, "The sheet".
-use Prim.Native.Nat.{ℕ, _≤_}
+use Prim.Native.Nat.{ℕ, _<_, _≤_}
 use native.Mathlib.Omega.{arith}
 use mathlib.Core.List.{List}
 use mathlib.Core.Path.{_≡_}
@@ -32,7 +32,7 @@ pub record LayoutOf (s : List ℕ) (l : Layout) : Type 0 where
   pub events-at : eventsAt l ≡ start s 2
   pub pairs-at : pairsAt l ≡ start s 3
 
--- The sheet has none of faults 1 to 4, and this is its layout.
+-- The sheet has no fault of its layout, and this is it.
 abbrev pub LaidBy : List ℕ → Layout → Type 0
 LaidBy s l = Laid s × LayoutOf s l
 
@@ -42,6 +42,13 @@ pub record WithinLimits (l : Layout) : Type 0 where
   pub transitions : l .transitions ≤ mostTransitions
   pub events : l .events ≤ mostEvents
   pub pairs : l .pairs ≤ mostPairs
+
+-- The starts are numbers of 4 bytes, so that the length of a body can be added to each.
+pub record FourBytes (l : Layout) : Type 0 where
+  pub places : placesAt l < 4294967296
+  pub transitions : transitionsAt l < 4294967296
+  pub events : eventsAt l < 4294967296
+  pub pairs : pairsAt l < 4294967296
 
 pub within : (s : List ℕ) (l : Layout) → Limited s → LayoutOf s l → WithinLimits l
 within s l known is = record { places = omega arith; transitions = omega arith; events = omega arith; pairs = omega arith }

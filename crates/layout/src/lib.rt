@@ -1,18 +1,23 @@
-// Where the bodies of a sheet start and how many items each has, read from its table of contents, and faults 1 to 4. Nothing here has a loop.
+// Where the bodies of a sheet start and how many items each has, read from its table of contents, and the faults of that table. Nothing here has a
+// loop.
 // That the table has 32 bytes is said here alone: whoever looks for an item goes by the layout.
 ghost use Prim.Native.Nat.{ℕ, _<_, _≤_};
 ghost use mathlib.Core.List.{List};
 ghost use mathlib.Core.Path.{_≡_};
 ghost use lib.ListN.{length};
 ghost use Rattle.sheet.specs.Table.{tableLength, start, count};
-ghost use Rattle.sheet.specs.Faults.{tooShort, overLimit, misplaced, wrongEnd, layoutFaults, firstFault};
-ghost use Rattle.sheet.specs.Laid.{longestSheet};
-ghost use Rattle.layout.specs.Layout.{pairsAt, LayoutOf, WithinLimits};
+ghost use Rattle.sheet.specs.Faults.{tooShort, overLimit, wrongEnd, layoutFaults, firstFault};
+ghost use Rattle.sheet.specs.Told.{tell, plain};
+ghost use Rattle.layout.specs.Layout.{LayoutOf, FourBytes, WithinLimits};
+ghost use Rattle.layout.specs.Starts.{startFault, startsFault};
 use ids::EVENTS;
 use ids::PAIRS;
 use ids::PLACES;
 use ids::TRANSITIONS;
 use numbers::get32;
+use sheet::Fault;
+use sheet::no_fault;
+use sheet::plain_fault;
 
 // The bytes of the table.
 pub const TABLE: usize = 32;
@@ -35,7 +40,7 @@ pub struct Layout {
 // The start of entry e's body.
 fn entry_start(s: &[u8], e: usize) -> usize
     requires { ⌜ (e < 4) × (tableLength ≤ length (now s)) ⌝ }
-    ensures { λ r. ⌜ r ≡ start (now (s .entry)) e ⌝ }
+    ensures { λ r. ⌜ (r ≡ start (now (s .entry)) e) × (r < 4294967296) ⌝ }
 {
     get32(s, 8 * e) as usize
 }
@@ -51,7 +56,7 @@ fn entry_count(s: &[u8], e: usize) -> usize
 // The layout that the table says.
 pub fn layout_of(s: &[u8]) -> Layout
     requires { ⌜ tableLength ≤ length (now s) ⌝ }
-    ensures { λ r. ⌜ LayoutOf (now (s .entry)) r ⌝ }
+    ensures { λ r. ⌜ LayoutOf (now (s .entry)) r × FourBytes r ⌝ }
 {
     Layout {
         places: entry_count(s, 0),
@@ -104,48 +109,65 @@ fn over_limit(l: Layout) -> bool
     l.pairs > PAIRS
 }
 
-// 3: a body's start isn't the end of what precedes it.
-fn misplaced_body(l: Layout) -> bool
-    requires { ⌜ WithinLimits l ⌝ }
-    ensures { λ r. ⌜ ((s : List ℕ) → LayoutOf s l → r ≡ misplaced s) ⌝ }
+// 14: a body starts late, after where it is due. 15: it starts early.
+fn start_fault(at: usize, due: usize) -> Fault
+    ensures { λ r. ⌜ r ≡ startFault at due ⌝ }
 {
-    if l.places_at != TABLE {
-        return true;
+    if at > due {
+        return plain_fault(14);
     }
-    if l.transitions_at != l.places_at + 4 * l.places {
-        return true;
+    if at < due {
+        return plain_fault(15);
     }
-    if l.events_at != l.transitions_at + 4 * l.places * l.transitions {
-        return true;
+    no_fault()
+}
+
+// 14 and 15, decided at the first body whose start isn't the end of what precedes it.
+fn misplaced_body(l: Layout) -> Fault
+    requires { ⌜ WithinLimits l × FourBytes l ⌝ }
+    ensures { λ r. ⌜ ((s : List ℕ) → LayoutOf s l → r ≡ startsFault s) ⌝ }
+{
+    let places = start_fault(l.places_at, TABLE);
+    if places.number != 0 {
+        return places;
     }
-    l.pairs_at != l.events_at + 2 * l.events
+    let transitions = start_fault(l.transitions_at, l.places_at + 4 * l.places);
+    if transitions.number != 0 {
+        return transitions;
+    }
+    let events = start_fault(l.events_at, l.transitions_at + 4 * l.places * l.transitions);
+    if events.number != 0 {
+        return events;
+    }
+    start_fault(l.pairs_at, l.events_at + 2 * l.events)
 }
 
 // 4: the sheet doesn't end with its last body.
-fn wrong_end(s: &[u8], l: Layout) -> bool
+fn wrong_end(s: &[u8], l: Layout) -> Fault
     requires { ⌜ LayoutOf (now s) l ⌝ }
-    requires { ⌜ WithinLimits l × (pairsAt l ≤ longestSheet) ⌝ }
-    ensures { λ r. ⌜ r ≡ wrongEnd (now (s .entry)) ⌝ }
+    requires { ⌜ WithinLimits l × FourBytes l ⌝ }
+    ensures { λ r. ⌜ r ≡ tell 4 (plain (wrongEnd (now (s .entry)))) ⌝ }
 {
-    s.len() != l.pairs_at + 4 * l.pairs
+    if s.len() != l.pairs_at + 4 * l.pairs {
+        return plain_fault(4);
+    }
+    no_fault()
 }
 
-// The first of faults 1 to 4, 0 for none.
-pub fn layout_fault(s: &[u8]) -> u32
+// The first of the faults of the layout: 1, 2, 14 or 15, and 4.
+pub fn layout_fault(s: &[u8]) -> Fault
     ensures { λ r. ⌜ r ≡ firstFault layoutFaults (now (s .entry)) ⌝ }
 {
     if too_short(s) {
-        return 1;
+        return plain_fault(1);
     }
     let l = layout_of(s);
     if over_limit(l) {
-        return 2;
+        return plain_fault(2);
     }
-    if misplaced_body(l) {
-        return 3;
+    let misplaced = misplaced_body(l);
+    if misplaced.number != 0 {
+        return misplaced;
     }
-    if wrong_end(s, l) {
-        return 4;
-    }
-    0
+    wrong_end(s, l)
 }

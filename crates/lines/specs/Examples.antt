@@ -4,18 +4,20 @@ use mathlib.Core.List.{List, [], _∷_, _++_}
 use mathlib.Core.Path.{_≡_, refl}
 use Rattle.numbers.specs.Number.{number}
 use Rattle.finite.specs.Bounded.{all, any}
+use Rattle.finite.specs.First.{first}
 use Rattle.finite.specs.Subset.{greatest, every}
 use Rattle.finite.specs.Sum.{sum, over}
 use Rattle.plan.specs.Order.{before, beforeBy, paired, freeCount}
 use Rattle.plan.specs.Prefix.{prefix, front, tokens, lack, missing, smallest, endCount}
 use Rattle.sheet.specs.Table.{start, count, limit, itemLength, item, bodyEnd, due}
 use Rattle.sheet.specs.Items.{openingAt, takesAt, givesAt, labelAt, earlierAt, laterAt}
-use Rattle.sheet.specs.Faults.{tooShort, overLimitAt, overLimit, misplacedAt, misplaced, wrongEnd, overOpeningAt, overOpening, overWeightAt, overWeightIn, overWeight}
+use Rattle.sheet.specs.Faults.{tooShort, overLimitAt, overLimit, misplacedAt, misplaced, late, early, wrongEnd, overOpeningAt, overOpening, overWeightAt, overWeightIn, overWeight}
 use Rattle.sheet.specs.Faults.{noTransitionAt, noTransition, noEventAt, noEvent, selfPairAt, selfPair, samePair, repeatAt, repeated, cycleAt, cyclic}
 use Rattle.sheet.specs.Faults.{layoutFaults, itemFaults, orderFaults, contentFaults, faults, firstFault, faultOf}
-use Rattle.summary.specs.Summary.{totalMissing, shortPlaces, verdictOf}
+use Rattle.sheet.specs.Told.{orElse}
+use Rattle.summary.specs.Summary.{totalMissing, shortPlaces}
 use Rattle.text.specs.Words.{word, digits, decimal, signed}
-use Rattle.lines.specs.Listing.{planLine, placeLine, totalsLine, each, doneEvents, firstLine, runsLine, verdictLine, lineOf, countLines, linesOf, refusedLine, textOf, listingOf}
+use Rattle.lines.specs.Listing.{planLine, placeLine, totalsLine, each, doneEvents, firstLine, runsLine, shortLine, lineOf, countLines, linesOf, refusedLine, textOf, listingOf}
 
 -- Starts 32, 44, 68, 74; 3 places with the given opening counts; hold takes 1 0 0 gives 0 1 0; sell takes 0 1 0 gives 0 0 1;
 -- events 0, 0, 1; one pair, of event 0 and the given one.
@@ -36,9 +38,9 @@ pub examples :
     × (listingOf (sheet 1 0 0 1)
     ≡ word "plan events 3 pairs 1 free 2\nplace 0 open 1 end -1 missing 1\nplace 1 open 0 end 1 missing 1\nplace 2 open 0 end 1 missing 0\nshort 2 total 2\nfirst 0 done 0\n")
     × (listingOf [] ≡ word "refused 1\n")
-unfolding sheet word digits decimal signed planLine placeLine totalsLine each doneEvents firstLine runsLine verdictLine lineOf countLines linesOf refusedLine textOf listingOf
+unfolding sheet word digits decimal signed planLine placeLine totalsLine each doneEvents firstLine runsLine shortLine lineOf countLines linesOf refusedLine textOf listingOf
     number any all before beforeBy paired freeCount prefix front tokens lack missing smallest endCount greatest every sum over start count limit itemLength item bodyEnd due
-    openingAt takesAt givesAt labelAt earlierAt laterAt tooShort overLimitAt overLimit misplacedAt misplaced wrongEnd overOpeningAt overOpening overWeightAt overWeightIn overWeight noTransitionAt
-    noTransition noEventAt noEvent selfPairAt selfPair samePair repeatAt repeated cycleAt cyclic layoutFaults itemFaults orderFaults contentFaults faults firstFault faultOf
-    totalMissing shortPlaces verdictOf
+    openingAt takesAt givesAt labelAt earlierAt laterAt tooShort overLimitAt overLimit misplacedAt misplaced late early wrongEnd overOpeningAt overOpening overWeightAt overWeightIn
+    overWeight noTransitionAt noTransition noEventAt noEvent selfPairAt selfPair samePair repeatAt repeated cycleAt cyclic layoutFaults itemFaults orderFaults contentFaults faults firstFault faultOf
+    first orElse totalMissing shortPlaces
 examples = (refl, refl, refl, refl)

@@ -3,6 +3,7 @@ use Prim.Native.Nat.{ℕ, zero, suc}
 use Prim.Native.String.{String}
 use mathlib.Core.Bool.{cond}
 use mathlib.Core.List.{List, [], _++_}
+use mathlib.Core.Option.{Option, none, some}
 use lib.IntN.{ℤ}
 use Rattle.finite.specs.Bounded.{any}
 use Rattle.finite.specs.Subset.{Set}
@@ -11,7 +12,7 @@ use Rattle.plan.specs.Order.{freeCount}
 use Rattle.plan.specs.Prefix.{missing, smallest, endCount}
 use Rattle.sheet.specs.Faults.{faultOf}
 use Rattle.sheet.specs.Items.{netOf, planOf}
-use Rattle.summary.specs.Summary.{totalMissing, shortPlaces, verdictOf}
+use Rattle.summary.specs.Summary.{totalMissing, shortPlaces, firstShort}
 use Rattle.summary.specs.declared.Verdict.{Verdict}
 use Rattle.summary.specs.declared.Verdict.the-variants.{Runs, Short}
 use Rattle.text.specs.Words.{word, decimal, signed}
@@ -58,9 +59,10 @@ unfoldable pub lastLine : Verdict → ℕ → Set → List ℕ
 lastLine Runs events D = runsLine
 lastLine (Short p m) events D = firstLine (p .0) events D
 
-unfoldable pub verdictLine : Net → Plan → Verdict → List ℕ
-verdictLine N P Runs = runsLine
-verdictLine N P (Short p m) = firstLine (p .0) (P .events) (smallest N P (p .0))
+-- that line by the first short place, if there is one
+unfoldable pub shortLine : Net → Plan → Option ℕ → List ℕ
+shortLine N P none = runsLine
+shortLine N P (some p) = firstLine p (P .events) (smallest N P p)
 
 -- the line of the place p
 unfoldable pub lineOf : Net → Plan → ℕ → List ℕ
@@ -75,17 +77,17 @@ countLines N P =
 
 -- the lines of a net and a plan
 unfoldable pub linesOf : Net → Plan → List ℕ
-linesOf N P = countLines N P ++ verdictLine N P (verdictOf (missing N P) (N .places))
+linesOf N P = countLines N P ++ shortLine N P (firstShort (missing N P) (N .places))
 
 -- A faulty sheet prints one line only.
 unfoldable pub refusedLine : ℕ → List ℕ
 refusedLine fault = field "refused " fault ++ word "\n"
 
--- the text for a fault, 0 for none
+-- the text for a fault's number, 0 for none; its item isn't shown
 unfoldable pub textOf : ℕ → Net → Plan → List ℕ
 textOf zero N P = linesOf N P
 textOf (suc fault) N P = refusedLine (suc fault)
 
 -- the listing of a sheet
 unfoldable pub listingOf : List ℕ → List ℕ
-listingOf s = textOf (faultOf s) (netOf s) (planOf s)
+listingOf s = textOf (faultOf s .number) (netOf s) (planOf s)

@@ -2,7 +2,8 @@
 use Prim.Native.Nat.{ℕ, zero, suc, _+_, _*_, _≤_, _<_}
 use native.Mathlib.Omega.{arith}
 use mathlib.Core.List.{List, _++_}
-use mathlib.Core.Path.{_≡_, refl, sym, ap, subst, _∙_}
+use mathlib.Core.Option.{Option, none, some}
+use mathlib.Core.Path.{_≡_, refl, sym, ap, _∙_}
 use Rattle.finite.specs.Filled.{Filled}
 use Rattle.plan.specs.Order.{freeCount}
 use Rattle.sheet.specs.Table.{placesOf, eventsOf, pairsOf}
@@ -15,46 +16,49 @@ use Rattle.place.specs.Place.{missingAt}
 use Rattle.search.specs.Row.{members}
 use Rattle.summary.specs.declared.Verdict.{Verdict}
 use Rattle.summary.specs.declared.Verdict.the-variants.{Runs, Short}
-use Rattle.summary.specs.Summary.{totalMissing, shortPlaces, verdictOf, verdictNumber, totalsIn, countAt, MissingCounts}
+use Rattle.summary.specs.Summary.{totalMissing, shortPlaces, firstShort, shortNumber, verdictNumber, VerdictOf, PlanValues, valuesIn, valuesOf, countAt, MissingCounts}
 use Rattle.summary.specs.Laws.{VerdictSays, verdict-says, verdict-fits}
 use Rattle.plan_judgement.specs.declared.First.{First}
 use Rattle.summary.specs.declared.Totals.{Totals}
 use Rattle.plan_judgement.specs.First.{FirstTo}
-use Rattle.plan_judgement.specs.CountsInRow.{small-counts, totals-agree}
-use Rattle.plan_judgement.specs.Judgement.{totalsOf}
+use Rattle.plan_judgement.specs.CountsInRow.{small-counts, row-values}
+use Rattle.plan_judgement.specs.Judgement.{planValues}
 use Rattle.counts.specs.Free.{free-pairs}
-use Rattle.lines.specs.Listing.{planLine, totalsLine, each, lastLine, verdictLine, lineOf, countLines, linesOf, refusedLine, textOf, listingOf}
+use Rattle.lines.specs.Listing.{planLine, totalsLine, each, lastLine, shortLine, lineOf, countLines, linesOf, refusedLine, textOf, listingOf}
 use Rattle.lines.specs.MissingRow.{MissingRow}
 
 -- the listing by the fault
 module _ (s : List ℕ) where
-  pub listing-refused : (k : ℕ) → k ≡ faultOf s → ¬ (k ≡ 0) → listingOf s ≡ refusedLine k
+  pub listing-refused : (k : ℕ) → k ≡ faultOf s .number → ¬ (k ≡ 0) → listingOf s ≡ refusedLine k
   unfolding listingOf textOf
-  listing-refused zero e some = absurd (some refl)
-  listing-refused (suc k) e some = ap (λ (fault : ℕ). textOf fault (netOf s) (planOf s)) (sym e)
+  listing-refused zero e there = absurd (there refl)
+  listing-refused (suc k) e there = ap (λ (fault : ℕ). textOf fault (netOf s) (planOf s)) (sym e)
 
-  pub listing-lines : (k : ℕ) → k ≡ faultOf s → k ≡ 0 → listingOf s ≡ linesOf (netOf s) (planOf s)
+  pub listing-lines : (k : ℕ) → k ≡ faultOf s .number → k ≡ 0 → listingOf s ≡ linesOf (netOf s) (planOf s)
   unfolding listingOf textOf
-  listing-lines k e none = ap (λ (fault : ℕ). textOf fault (netOf s) (planOf s)) (sym e ∙ none)
+  listing-lines k e clear = ap (λ (fault : ℕ). textOf fault (netOf s) (planOf s)) (sym e ∙ clear)
 
 -- what the counts in a row come to
 pub record Told (s : List ℕ) (t : Totals) : Type 0 where
   pub total : t .total ≡ totalMissing (missingAt s) (placesOf s)
   pub short : t .short ≡ shortPlaces (missingAt s) (placesOf s)
-  pub verdict : t .verdict ≡ verdictOf (missingAt s) (placesOf s)
+  pub verdict : VerdictOf (missingAt s) (placesOf s) (t .verdict)
 
 -- a short verdict's place is one of the net
 pub few-places : (s : List ℕ) → Faultless s → (t : Totals) → Told s t → verdictNumber (t .verdict) < 1064
 few-places s known t all =
-    rw (all .verdict) (omega (arith, verdict-fits (missingAt s) (placesOf s), known .laid .limited .places))
+    omega (arith, all .verdict .0, verdict-fits (missingAt s) (placesOf s), known .laid .limited .places)
 
--- the last line, from the done set of the first short place
-last-by : (s : List ℕ) (f : First) (v : Verdict) → FirstTo s (placesOf s) f → VerdictSays (missingAt s) (placesOf s) v
-    → verdictLine (netOf s) (planOf s) v ≡ lastLine v (eventsOf s) (members (f .done))
-unfolding verdictLine lastLine
-last-by s f Runs first says = refl
-last-by s f (Short p m) first says =
-    rw (first .set (p .0) (says .0) (record { short = omega (arith, says .1, says .2); before = says .3 }))
+-- the last line, from the verdict and the done set of the first short place
+last-by : (s : List ℕ) (f : First) (v : Verdict) (o : Option ℕ) → FirstTo s (placesOf s) f → VerdictSays (missingAt s) (placesOf s) v
+    → verdictNumber v ≡ shortNumber o → shortLine (netOf s) (planOf s) o ≡ lastLine v (eventsOf s) (members (f .done))
+unfolding shortLine lastLine
+last-by s f Runs none first says number = refl
+last-by s f Runs (some q) first says number = absurd (omega arith)
+last-by s f (Short p m) none first says number = absurd (omega arith)
+last-by s f (Short p m) (some q) first says number =
+    let same : q ≡ p .0 = omega arith in
+    rw (same, first .set (p .0) (says .0 .0) (says .0 .1))
 
 module _ (s : List ℕ) (known : Faultless s) (l : Layout) (is : LayoutOf s l) where
   free-of : 2 * (freeCount (planOf s) + pairsOf s) + eventsOf s ≡ eventsOf s * eventsOf s
@@ -80,20 +84,23 @@ module _ (s : List ℕ) (known : Faultless s) (l : Layout) (is : LayoutOf s l) w
     pub small : MissingCounts new (l .places)
     small = small-counts s known (l .places) (is .places) old new counted
 
-    pub told : (t : Totals) → t ≡ totalsIn (countAt new) (l .places) → Told s t
-    unfolding totalsOf
+    pub told : (t : Totals) → valuesIn t ≡ valuesOf (countAt new) (l .places) → Told s t
+    unfolding planValues valuesOf
     told t e =
-        let all = e ∙ totals-agree s known (l .places) (is .places) old new counted in
+        let all = e ∙ row-values s known (l .places) (is .places) old new counted in
         record {
-          total = ap (λ (t : Totals). t .total) all;
-          short = ap (λ (t : Totals). t .short) all;
-          verdict = ap (λ (t : Totals). t .verdict) all;
+          total = ap (λ (v : PlanValues). v .total) all;
+          short = ap (λ (v : PlanValues). v .short) all;
+          verdict = (ap (λ (v : PlanValues). v .number) all, ap (λ (v : PlanValues). v .count) all);
         }
 
   -- the lines, from those that tell counts and the last one
-  pub lines-are : (f : First) (v : Verdict) → FirstTo s (l .places) f → v ≡ verdictOf (missingAt s) (placesOf s)
+  pub lines-are : (f : First) (v : Verdict) → FirstTo s (l .places) f → VerdictOf (missingAt s) (placesOf s) v
       → linesOf (netOf s) (planOf s) ≡ countLines (netOf s) (planOf s) ++ lastLine v (l .events) (members (f .done))
   unfolding linesOf
-  lines-are f v first e =
-      rw (← e, is .events)
-      (ap (λ (line : List ℕ). countLines (netOf s) (planOf s) ++ line) (last-by s f v (rw (is .places) at first) (rw (← e) at (verdict-says (missingAt s) (placesOf s)))))
+  lines-are f v first told =
+      let says = verdict-says (missingAt s) (placesOf s) v told in
+      rw (is .events)
+      (ap
+      (λ (line : List ℕ). countLines (netOf s) (planOf s) ++ line)
+      (last-by s f v (firstShort (missingAt s) (placesOf s)) (rw (is .places) at first) says (told .0)))

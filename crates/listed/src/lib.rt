@@ -15,7 +15,7 @@ ghost use Rattle.sheet.specs.Items.{netOf, planOf};
 ghost use Rattle.sheet.specs.Table.{placesOf};
 ghost use Rattle.summary.specs.Summary.{totalMissing, shortPlaces};
 ghost use Rattle.text.specs.Put.{Put};
-ghost use Rattle.listed.specs.Listed.{listedOf, rowAfter};
+ghost use Rattle.listed.specs.Listed.{says, listSays, rowAfter};
 use counts::free_count;
 use fault::examine;
 use ids::PLACES;
@@ -28,11 +28,13 @@ use lines::put_refused;
 use lines::put_totals;
 use place_lines::put_places;
 use plan_judgement::count_missing;
+use sheet::Fault;
+use sheet::plain_fault;
 use summary::sum_up;
 use text::put_word;
 
 pub enum Listed {
-    Fault(u32),
+    Refused(Fault),
     Length(usize),
 }
 
@@ -84,22 +86,23 @@ fn put_listing(s: &[u8], row: &mut [u8]) -> usize
     let mut succ = [0u32; ROWS];
     let mut pred = [0u32; ROWS];
     let e = examine(s, &mut succ, &mut pred);
-    let k = e.fault;
-    if k != 0 {
-        return put_refused(row, 0, k);
+    let f = e.fault;
+    if f.number != 0 {
+        return put_refused(row, 0, f.number);
     }
     put_lines(s, e.layout, &pred, row)
 }
 
 // Writes the listing of any bytes into a lent row and tells its length. A row that is too short is left as it is.
 pub fn write_listing(s: &[u8], row: &mut [u8]) -> Listed
-    ensures { λ r. ⌜ r ≡ listedOf (was s) (was row) ⌝ }
+    ensures { λ r. ⌜ says r ≡ listSays (was s) (was row) ⌝ }
     ensures { λ _. ⌜ is row ≡ rowAfter (was s) (was row) ⌝ }
 {
     let mut text = [0u8; LISTING_ROOM];
     let n = put_listing(s, &mut text);
     if row.len() < n {
-        return Listed::Fault(13);
+        let f = plain_fault(13);
+        return Listed::Refused(f);
     }
     put_word(row, 0, &text[..n]);
     Listed::Length(n)

@@ -50,7 +50,7 @@ fn list(sheet: &[u8], n: usize) {
     if n <= sheet.len() {
         let listed = write_listing(&sheet[0..n], &mut text);
         match listed {
-            Listed::Fault(_k) => {}
+            Listed::Refused(_f) => {}
             Listed::Length(length) => print(&text, length),
         }
     }

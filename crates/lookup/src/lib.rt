@@ -1,5 +1,5 @@
 // The items of a sheet, read from its bytes by place, transition and event numbers that cannot be mixed up. An item stands in its body after
-// those with lower numbers; the sheet's layout says where the body starts. Faults 1 to 4 are absent.
+// those with lower numbers; the sheet's layout says where the body starts. The layout has no fault.
 ghost use Prim.Native.Nat.{_+_, _*_, _<_, _≤_};
 ghost use mathlib.Core.Path.{_≡_};
 ghost use Rattle.ids.specs.Limits.{mostPlaces, mostTransitions};

@@ -1,8 +1,9 @@
 -- From the marks of a sheet's pairs to its order: the rows closed, and the cycle that they show.
 use Prim.Native.Nat.{ℕ, _<_}
-use mathlib.Core.Bool.{true, false}
+use mathlib.Core.Bool.{Bool, true, false}
 use mathlib.Core.List.{List}
-use mathlib.Core.Path.{_≡_}
+use mathlib.Core.Option.{none}
+use mathlib.Core.Path.{_≡_, sym, ap, _∙_}
 use Rattle.finite.specs.Bounded.{any-ext}
 use Rattle.marks.specs.Marks.{marked}
 use Rattle.closure.specs.ClosedRows.{cyclic as cyclicRows, ClosedRows}
@@ -14,12 +15,14 @@ use Rattle.sheet.specs.Faults.{noEvent, repeated, cycleAt, cyclic, orderFaults,
 use Rattle.layout.specs.Layout.{LaidBy}
 use Rattle.layout.specs.declared.Layout.{Layout}
 use Rattle.sheet.specs.Faultless.{ends}
+use Rattle.sheet.specs.Told.{faultAt, noFault, tell, plain, orElse, else-first, else-next}
+use Rattle.sheet.specs.declared.Fault.{Fault}
 use Rattle.order.specs.Laws.{mark-before}
 use Rattle.order.specs.Rows.{PairsMarked, OrderRows}
 
-module _ (s : List ℕ) (l : Layout) (known : LaidBy s l) (none : noEvent s ≡ false) where
+module _ (s : List ℕ) (l : Layout) (known : LaidBy s l) (all : noEvent s ≡ none) where
   named : Named (planOf s)
-  named = record { earlier = λ i h. ends s none i h .0; later = λ i h. ends s none i h .1 }
+  named = record { earlier = λ i h. ends s all i h .0; later = λ i h. ends s all i h .1 }
 
   module _ (succ pred succ₁ : List ℕ) (marks : PairsMarked (planOf s) (pairsOf s) succ pred) (closed : ClosedRows succ succ₁ (l .events) (l .events)) where
     after-rows : Successors (planOf s) succ₁
@@ -42,15 +45,23 @@ module _ (s : List ℕ) (l : Layout) (known : LaidBy s l) (none : noEvent s ≡ 
         }
 
 -- the fault that is told, by what each test said
-module _ (s : List ℕ) where
-  pub fault-10 : repeated s ≡ true → 10 ≡ firstFault orderFaults s
-  unfolding orderFaults firstFault
-  fault-10 a = simp a
+module _ (s : List ℕ) (r : Fault) (is : r ≡ tell 10 (repeated s)) where
+  -- f is what is told of the sheet
+  abbrev Told : Fault → Type 0
+  Told f = f ≡ firstFault orderFaults s
 
-  pub fault-11 : repeated s ≡ false → cyclic s ≡ true → 11 ≡ firstFault orderFaults s
+  rest : firstFault orderFaults s ≡ orElse r (orElse (tell 11 (plain (cyclic s))) noFault)
   unfolding orderFaults firstFault
-  fault-11 a b = simp (a, b)
+  rest = ap (λ (f : Fault). orElse f (orElse (tell 11 (plain (cyclic s))) noFault)) (sym is)
 
-  pub no-fault : repeated s ≡ false → cyclic s ≡ false → 0 ≡ firstFault orderFaults s
-  unfolding orderFaults firstFault
-  no-fault a b = simp (a, b)
+  pub fault-10 : ¬ (r .number ≡ 0) → Told r
+  fault-10 there = sym (rest ∙ else-first r _ there)
+
+  module _ (once : r .number ≡ 0) where
+    pub fault-11 : cyclic s ≡ true → Told (faultAt 11 0)
+    unfolding orElse
+    fault-11 a = sym (rest ∙ else-next r _ once ∙ ap (λ (b : Bool). orElse (tell 11 (plain b)) noFault) a)
+
+    pub no-fault : cyclic s ≡ false → Told noFault
+    unfolding orElse
+    no-fault a = sym (rest ∙ else-next r _ once ∙ ap (λ (b : Bool). orElse (tell 11 (plain b)) noFault) a)

@@ -1,8 +1,9 @@
 -- Pair after pair: those so far are marked, and none of them repeats an earlier one.
 use Prim.Native.Nat.{ℕ, _+_, _<_}
 use native.Mathlib.Omega.{arith}
-use mathlib.Core.Bool.{false, _&&_}
+use mathlib.Core.Bool.{_&&_}
 use mathlib.Core.List.{List}
+use mathlib.Core.Option.{none}
 use mathlib.Core.Path.{_≡_, refl, sym, ap, ap₂, fun-ext, _∙_}
 use lib.Dec.{eqb, eqb→eq}
 use mir.Facts.{yes-eqb}
@@ -36,8 +37,9 @@ repeat-marked s i succ pred g a b e f l =
     ∙ rw (e, f) refl
 
 -- both ends of a pair are events, where fault 8 is absent
-pub few-ends : (s : List ℕ) → Laid s → noEvent s ≡ false → (i : ℕ) → i < pairsOf s → (earlierAt s i < mostEvents) × (laterAt s i < mostEvents)
-few-ends s known none i l = let named = ends s none i l in omega (arith, known .limited .events)
+pub few-ends : (s : List ℕ) → Laid s → noEvent s ≡ none → (i : ℕ) {a b : ℕ} → a ≡ earlierAt s i → b ≡ laterAt s i → i < pairsOf s
+    → (a < mostEvents) × (b < mostEvents)
+few-ends s known all i e f l = let named = ends s all i l in omega (arith, known .limited .events)
 
 module _ (P : Plan) where
   pub start : (succ pred : List ℕ) → Blank succ → Blank pred → PairsMarked P 0 succ pred

@@ -1,11 +1,13 @@
 -- The answer of the place judgement and its rows, at each place where it is given.
-use Prim.Native.Nat.{ℕ, zero, suc, _+_, _<_, _≤_}
+use Prim.Native.Nat.{ℕ, _+_, _<_, _≤_}
 use native.Mathlib.Omega.{arith}
+use mathlib.Core.Bool.{Bool, true, false}
 use mathlib.Core.List.{List}
-use mathlib.Core.Path.{_≡_, refl, sym, ap, _∙_}
-use lib.Dec.{leb, ltb}
+use mathlib.Core.Path.{_≡_, refl, sym, ap, ap₂, _∙_}
+use borrow.Author.Tests.{ne-eqb}
+use lib.Dec.{leb, ltb, eqb}
 use lib.ListN.{length}
-use Rattle.plan.specs.Prefix.{missing}
+use Rattle.plan.specs.Prefix.{missing, runsAt}
 use Rattle.sheet.specs.Table.{eventsOf}
 use Rattle.sheet.specs.Items.{netOf, planOf}
 use Rattle.sheet.specs.Faults.{faultOf}
@@ -16,20 +18,22 @@ use Rattle.calls.specs.Call.{placeFault, place-known, row-known}
 use Rattle.calls.specs.Refusal.{FaultTold, Next, place-link, row-link}
 use Rattle.calls.specs.FlowRow.{flowLength, flowFault}
 use Rattle.calls.specs.Overwritten.{at-fault, at-none}
+use Rattle.calls.specs.Said.{answer, said-answer, told-refusal}
+use Rattle.sheet.specs.declared.Fault.{Fault}
 use Rattle.place_judgement.specs.declared.Judgement.{Judgement}
-use Rattle.place_judgement.specs.declared.Judgement.the-variants.{Fault, Runs, Short}
+use Rattle.place_judgement.specs.declared.Judgement.the-variants.{Refused, Runs, Short}
 use Rattle.place_judgement.specs.Handed.{marksDone, Written}
-use Rattle.place_judgement.specs.Judgement.{answer, judgeFault, judgementOf, marksAfter, Handed}
+use Rattle.place_judgement.specs.Judgement.{PlaceValues, says, judgeFault, valuesAt, judgementSays, marksAfter, Handed}
 
-runs-is : (m k : ℕ) → m ≡ k → m ≡ 0 → Runs ≡ answer 0 k
-unfolding answer
-runs-is m zero e none = refl
-runs-is m (suc k) e none = let no : ⊥ = omega arith in absurd no
+-- the values of the two cases, by the missing count
+module _ (s : List ℕ) (p m : ℕ) (is : m ≡ missing (netOf s) (planOf s) p) where
+  runs-is : m ≡ 0 → valuesAt s p ≡ record { runs = true; missing = 0 }
+  unfolding runsAt
+  runs-is clear = ap (λ (k : ℕ). record { runs = eqb k 0; missing = k }) (sym is ∙ clear)
 
-short-is : (m k : ℕ) → m ≡ k → ¬ (m ≡ 0) → Short m ≡ answer 0 k
-unfolding answer
-short-is m zero e some = absurd (some e)
-short-is m (suc k) e some = ap Short e
+  short-is : ¬ (m ≡ 0) → valuesAt s p ≡ record { runs = false; missing = m }
+  unfolding runsAt
+  short-is there = ap₂ (λ (b : Bool) (k : ℕ). record { runs = b; missing = k }) (ne-eqb _ 0 (λ z. there (is ∙ z))) (sym is)
 
 -- the fault of the call, by its four links
 pub fault-told : (s : List ℕ) (p : ℕ) (flow marks : List ℕ) (seen placed numbered e : Examined) → FaultTold s (faultOf s) seen
@@ -45,36 +49,35 @@ module _ (s : List ℕ) (p : ℕ) (flow marks : List ℕ) where
   -- what is promised of an answer and of the rows at return
   abbrev pub Answered : Judgement → List ℕ → List ℕ → Type 0
   Answered r flow′ marks′ =
-      (r ≡ judgementOf s p flow marks) × ((marks′ ≡ marksAfter s p flow marks) × Handed s p flow marks flow′)
-
-  refused-by : (k : ℕ) → ¬ (k ≡ 0) → judgeFault s p flow marks ≡ k → Answered (Fault k) flow marks
-  unfolding judgementOf answer marksAfter
-  refused-by zero some e = absurd (some refl)
-  refused-by (suc k) some e = (
-    simp e,
-    (
-      at-fault (judgeFault s p flow marks) _ marks (λ z. some (sym e ∙ z)),
-      record { fault = λ _. refl; judged = λ z. absurd (some (sym e ∙ z)) },
-    ),
-  )
+      (says r ≡ judgementSays s p flow marks) × ((marks′ ≡ marksAfter s p flow marks) × Handed s p flow marks flow′)
 
   module _ (e : Examined) (told : FaultTold s (judgeFault s p flow marks) e) where
-    pub refused : ¬ (e .fault ≡ 0) → Answered (Fault (e .fault)) flow marks
-    refused some = refused-by (e .fault) some (sym (told .number))
+    number-is : e .fault .number ≡ judgeFault s p flow marks .number
+    number-is = ap (λ (f : Fault). f .number) (told .told)
 
-    module _ (none : e .fault ≡ 0) where
-      clear : judgeFault s p flow marks ≡ 0
-      clear = sym (told .number) ∙ none
+    pub refused : ¬ (e .fault .number ≡ 0) → (f : Fault) → f .number ≡ e .fault .number → f .item ≡ e .fault .item → Answered (Refused f) flow marks
+    unfolding judgementSays marksAfter
+    refused there f number item = (
+      told-refusal (valuesAt s p) (number ∙ number-is) (item ∙ ap (λ (g : Fault). g .item) (told .told)) (λ z. there (number-is ∙ z)),
+      (
+        at-fault (judgeFault s p flow marks .number) _ marks (λ z. there (number-is ∙ z)),
+        record { fault = λ _. refl; judged = λ z. absurd (there (number-is ∙ z)) },
+      ),
+    )
 
-      by-marks : (flowFault s p flow ≡ 0) × (eventsOf s ≤ length marks)
+    module _ (none : e .fault .number ≡ 0) where
+      clear : judgeFault s p flow marks .number ≡ 0
+      clear = sym number-is ∙ none
+
+      by-marks : (flowFault s p flow .number ≡ 0) × (eventsOf s ≤ length marks)
       unfolding judgeFault
       by-marks = row-known (flowFault s p flow) marks (eventsOf s) clear
 
-      by-flow : (placeFault s p ≡ 0) × (flowLength s ≤ length flow)
+      by-flow : (placeFault s p .number ≡ 0) × (flowLength s ≤ length flow)
       unfolding flowFault
       by-flow = row-known (placeFault s p) flow (flowLength s) (by-marks .0)
 
-      pub taken : faultOf s ≡ 0
+      pub taken : faultOf s .number ≡ 0
       taken = place-known s p (by-flow .0) .0
 
       pub known : Faultless s
@@ -89,21 +92,20 @@ module _ (s : List ℕ) (p : ℕ) (flow marks : List ℕ) where
       pub room : (e .layout .pairs + e .layout .events ≤ length flow) × (e .layout .events ≤ length marks)
       room = (omega (arith, laid .pairs, laid .events, by-flow .1), omega (arith, laid .events, by-marks .1))
 
-      judged-told : (r : Judgement) (flow′ marks′ : List ℕ) → r ≡ answer 0 (missing (netOf s) (planOf s) p)
-          → marks′ ≡ marksDone s p marks → Written s p flow flow′ → Answered r flow′ marks′
-      unfolding judgementOf marksAfter
-      judged-told r flow′ marks′ e d w = (
-        e ∙ ap (λ (k : ℕ). answer k (missing (netOf s) (planOf s) p)) (sym clear),
-        (
-          d ∙ at-none (judgeFault s p flow marks) _ marks clear,
-          record { fault = λ some. absurd (some clear); judged = λ _. w },
-        ),
-      )
+      module _ (flow′ marks′ : List ℕ) (done : marks′ ≡ marksDone s p marks) (written : Written s p flow flow′) where
+        judged-told : (r : Judgement) (x : PlaceValues) → says r ≡ answer x → valuesAt s p ≡ x → Answered r flow′ marks′
+        unfolding judgementSays marksAfter
+        judged-told r x case is = (
+          case ∙ sym (said-answer (judgeFault s p flow marks) (valuesAt s p) clear ∙ ap answer is),
+          (
+            done ∙ at-none (judgeFault s p flow marks .number) _ marks clear,
+            record { fault = λ there. absurd (there clear); judged = λ _. written },
+          ),
+        )
 
-      module _ (m : ℕ) (flow′ marks′ : List ℕ) (count : m ≡ missing (netOf s) (planOf s) p) (done : marks′ ≡ marksDone s p marks) (written : Written s p flow flow′) where
-        pub runs-told : m ≡ 0 → Answered Runs flow′ marks′
-        runs-told none = judged-told Runs flow′ marks′ (runs-is m (missing (netOf s) (planOf s) p) count none) done written
+        module _ (m : ℕ) (count : m ≡ missing (netOf s) (planOf s) p) where
+          pub runs-told : m ≡ 0 → Answered Runs flow′ marks′
+          runs-told nothing = judged-told Runs _ refl (runs-is s p m count nothing)
 
-        pub short-told : ¬ (m ≡ 0) → Answered (Short m) flow′ marks′
-        short-told some =
-            judged-told (Short m) flow′ marks′ (short-is m (missing (netOf s) (planOf s) p) count some) done written
+          pub short-told : ¬ (m ≡ 0) → Answered (Short m) flow′ marks′
+          short-told some = judged-told (Short m) _ refl (short-is s p m count some)

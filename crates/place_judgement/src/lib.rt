@@ -9,7 +9,7 @@ ghost use Rattle.place.specs.Place.{missingAt};
 ghost use Rattle.sheet.specs.Faultless.{Faultless};
 ghost use Rattle.sheet.specs.Items.{planOf};
 ghost use Rattle.place_judgement.specs.Handed.{marksDone, Written};
-ghost use Rattle.place_judgement.specs.Judgement.{Handed, judgementOf, marksAfter};
+ghost use Rattle.place_judgement.specs.Judgement.{says, judgementSays, Handed, marksAfter};
 use calls::with_place;
 use calls::with_row;
 use done_set::write_marks;
@@ -22,13 +22,14 @@ use ids::WORDS;
 use layout::Layout;
 use place::missing_count;
 use ranks::event_order;
+use sheet::Fault;
 
 mod handing;
 
 use handing::hand_flow;
 
 pub enum Judgement {
-    Fault(u32),
+    Refused(Fault),
     Runs,
     Short(u32),
 }
@@ -78,7 +79,7 @@ fn judge_known(
 // The place judgement. Running there: the flow row holds a valid flow and the marks are 0. Short: its numbers are 0, and the marks are 1
 // for the smallest done set at which most tokens lack. A fault changes neither row.
 pub fn judge_place(s: &[u8], p: Place, flow: &mut [u32], marks: &mut [u8]) -> Judgement
-    ensures { λ r. ⌜ r ≡ judgementOf (was s) (p .0) (was flow) (was marks) ⌝ }
+    ensures { λ r. ⌜ says r ≡ judgementSays (was s) (p .0) (was flow) (was marks) ⌝ }
     ensures { λ r. ⌜ is marks ≡ marksAfter (was s) (p .0) (was flow) (was marks) ⌝ }
     ensures { λ r. ⌜ Handed (was s) (p .0) (was flow) (was marks) (is flow) ⌝ }
 {
@@ -92,9 +93,9 @@ pub fn judge_place(s: &[u8], p: Place, flow: &mut [u32], marks: &mut [u8]) -> Ju
         placed.layout.pairs + placed.layout.events,
     );
     let e = with_row(numbered, marks.len(), numbered.layout.events);
-    let k = e.fault;
-    if k != 0 {
-        return Judgement::Fault(k);
+    let f = e.fault;
+    if f.number != 0 {
+        return Judgement::Refused(f);
     }
     let m = judge_known(s, e.layout, p, &succ, &pred, flow, marks);
     if m == 0 {

@@ -10,10 +10,10 @@ use Rattle.plan.specs.Net.{takenBy}
 use Rattle.sheet.specs.Faultless.{Faultless, sound}
 use Rattle.sheet.specs.Items.{netOf, planOf, labelAt}
 use Rattle.sheet.specs.Table.{placesOf, eventsOf}
-use Rattle.summary.specs.Laws.{total-agrees, short-agrees, verdict-agrees}
-use Rattle.summary.specs.Summary.{mostMissing, totalsIn, countAt, MissingCounts}
+use Rattle.summary.specs.Laws.{values-agree}
+use Rattle.summary.specs.Summary.{mostMissing, valuesOf, countAt, MissingCounts}
 use Rattle.theory.specs.Missing.{missing-most}
-use Rattle.plan_judgement.specs.Judgement.{totalsOf}
+use Rattle.plan_judgement.specs.Judgement.{planValues}
 
 -- What is missing at a place is no more than all events take.
 most-missing : (s : List ℕ) → Faultless s → (p : ℕ) → p < placesOf s → missingAt s p ≤ mostMissing
@@ -33,13 +33,6 @@ module _ (s : List ℕ) (known : Faultless s) (n : ℕ) (is : n ≡ placesOf s) 
         most = λ p l. omega (arith, counted .numbers p l, most-missing s known p (omega (arith, is)));
       }
 
-  pub totals-agree : totalsIn (countAt new) n ≡ totalsOf s
-  unfolding totalsOf
-  totals-agree =
-      (λ i.
-      record {
-        total = total-agrees (countAt new) (missingAt s) n (counted .numbers) i;
-        short = short-agrees (countAt new) (missingAt s) n (counted .numbers) i;
-        verdict = verdict-agrees (countAt new) (missingAt s) n (counted .numbers) i;
-      })
-      ∙ ap (totalsIn (missingAt s)) is
+  pub row-values : valuesOf (countAt new) n ≡ planValues s
+  unfolding planValues
+  row-values = values-agree (countAt new) (missingAt s) n (counted .numbers) ∙ ap (valuesOf (missingAt s)) is

@@ -11,18 +11,14 @@ use Rattle.plan.specs.Prefix.{smallest}
 use Rattle.sheet.specs.Items.{netOf, planOf}
 use Rattle.search.specs.Row.{members}
 use Rattle.place.specs.Place.{missingAt}
+use Rattle.summary.specs.Laws.{IsFirst}
 use Rattle.plan_judgement.specs.declared.First.{First}
-
--- The place p is the first short one.
-pub record IsFirst (s : List ℕ) (p : ℕ) : Type 0 where
-  pub short : 0 < missingAt s p
-  pub before : (q : ℕ) → q < p → missingAt s q ≡ 0
 
 -- Of the first k places: whether one is short, and the done set of the first that is.
 pub record FirstTo (s : List ℕ) (k : ℕ) (f : First) : Type 0 where
   pub none : f .short ≡ false → (q : ℕ) → q < k → missingAt s q ≡ 0
   pub some : f .short ≡ true → (q : ℕ) × (q < k) × (0 < missingAt s q)
-  pub set : (p : ℕ) → p < k → IsFirst s p → smallest (netOf s) (planOf s) p ≡ members (f .done)
+  pub set : (p : ℕ) → p < k → IsFirst (missingAt s) p → smallest (netOf s) (planOf s) p ≡ members (f .done)
 
 pub first-start : (s : List ℕ) (f : First) → f .short ≡ false → FirstTo s 0 f
 first-start s f e =
@@ -40,7 +36,7 @@ module _ (s : List ℕ) (k : ℕ) (f : First) (known : FirstTo s k f) where
       record {
         none = λ n. absurd (true≢false (sym e ∙ n));
         some = λ _. (q .0, omega (arith, q .1), q .2);
-        set = below-more (λ p. IsFirst s p → smallest (netOf s) (planOf s) p ≡ members (f .done)) k (known .set) (λ h. absurd (omega (arith, h .before (q .0) (q .1), q .2)));
+        set = below-more (λ p. IsFirst (missingAt s) p → smallest (netOf s) (planOf s) p ≡ members (f .done)) k (known .set) (λ h. absurd (omega (arith, h .before (q .0) (q .1), q .2)));
       }
 
   -- a place after none that is short is the first, if it is short
@@ -50,5 +46,5 @@ module _ (s : List ℕ) (k : ℕ) (f : First) (known : FirstTo s k f) where
       record {
         none = λ n. below-more (λ q. missingAt s q ≡ 0) k (known .none e) (omega (arith, ltb-false 0 m (sym short ∙ n), count));
         some = λ t. (k, omega arith, omega (arith, ltb-true 0 m (sym short ∙ t), count));
-        set = below-more (λ p. IsFirst s p → smallest (netOf s) (planOf s) p ≡ members (g .done)) k (λ p l h. absurd (omega (arith, known .none e p l, h .short))) (λ h. set (h .short));
+        set = below-more (λ p. IsFirst (missingAt s) p → smallest (netOf s) (planOf s) p ≡ members (g .done)) k (λ p l h. absurd (omega (arith, known .none e p l, h .short))) (λ h. set (h .short));
       }

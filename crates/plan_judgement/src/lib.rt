@@ -11,7 +11,7 @@ ghost use Rattle.sheet.specs.Faultless.{Faultless};
 ghost use Rattle.sheet.specs.Items.{planOf};
 ghost use Rattle.place.specs.Place.{missingAt};
 ghost use Rattle.plan_judgement.specs.First.{FirstTo};
-ghost use Rattle.plan_judgement.specs.Judgement.{answerOf, rowOf};
+ghost use Rattle.plan_judgement.specs.Judgement.{says, planSays, rowOf};
 use calls::with_row;
 use fault::examine;
 use ids::EVENTS;
@@ -22,11 +22,12 @@ use ids::WORDS;
 use layout::Layout;
 use place::missing_count;
 use ranks::event_order;
+use sheet::Fault;
 use summary::Totals;
 use summary::sum_up;
 
 pub enum Answer {
-    Fault(u32),
+    Refused(Fault),
     Judged(Totals),
 }
 
@@ -115,16 +116,16 @@ pub fn count_missing(s: &[u8], l: Layout, pred: &[u32; ROWS], row: &mut [u32]) -
 
 // The plan judgement. The order is worked out once for all places.
 pub fn judge_plan(s: &[u8], row: &mut [u32]) -> Answer
-    ensures { λ r. ⌜ r ≡ answerOf (was s) (was row) ⌝ }
+    ensures { λ r. ⌜ says r ≡ planSays (was s) (was row) ⌝ }
     ensures { λ _. ⌜ is row ≡ rowOf (was s) (was row) ⌝ }
 {
     let mut succ = [0u32; ROWS];
     let mut pred = [0u32; ROWS];
     let seen = examine(s, &mut succ, &mut pred);
     let e = with_row(seen, row.len(), seen.layout.places);
-    let k = e.fault;
-    if k != 0 {
-        return Answer::Fault(k);
+    let f = e.fault;
+    if f.number != 0 {
+        return Answer::Refused(f);
     }
     let l = e.layout;
     count_missing(s, l, &pred, row);

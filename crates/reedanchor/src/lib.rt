@@ -1,7 +1,8 @@
 // The plan judgement for C, over the bytes of a sheet alone.
 ghost use Prim.Native.Nat.{_<_};
 ghost use mathlib.Core.Path.{_≡_};
-ghost use Rattle.reedanchor.specs.Till.{answersBelow, answerNumber, tillAnswer};
+ghost use Rattle.reedanchor.specs.Till.{answersBelow, numberSaid, tillAnswer};
+ghost use Rattle.plan_judgement.specs.Judgement.{says};
 use ids::PLACES;
 use plan_judgement::Answer;
 use plan_judgement::judge_plan;
@@ -9,11 +10,11 @@ use summary::verdict_number;
 
 // The number of a fault, else of the verdict.
 fn answer_number(a: Answer) -> u32
-    requires { ⌜ answerNumber a < answersBelow ⌝ }
-    ensures { λ r. ⌜ r ≡ answerNumber a ⌝ }
+    requires { ⌜ numberSaid (says a) < answersBelow ⌝ }
+    ensures { λ r. ⌜ r ≡ numberSaid (says a) ⌝ }
 {
     match a {
-        Answer::Fault(k) => k,
+        Answer::Refused(f) => f.number,
         Answer::Judged(totals) => {
             let v = totals.verdict;
             verdict_number(v)

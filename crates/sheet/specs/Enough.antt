@@ -2,9 +2,10 @@
 use Prim.Native.Nat.{ℕ, zero, suc, _+_, _*_, _<_, _≤_}
 use native.Mathlib.Nat.{le-of-lt}
 use native.Mathlib.Omega.{arith}
-use mathlib.Core.Bool.{Bool, true, false, not, cond}
+use mathlib.Core.Bool.{Bool, true, false, not}
 use mathlib.Core.List.{List}
 use mathlib.Core.Logic.{⊎-elim}
+use mathlib.Core.Option.{Option, none, some}
 use mathlib.Core.Path.{_≡_, refl, sym, ap, ap₂, subst, _∙_}
 use borrow.Author.Tests.{le-ltb}
 use lib.Dec.{eqb, ltb, leb, leb→le, nleb→lt}
@@ -12,10 +13,13 @@ use lib.ListN.{length, take}
 use lib.Seq.{length-take-le, take-all}
 use Rattle.numbers.specs.Number.{number-take}
 use Rattle.finite.specs.Bounded.{any-ext, decide}
+use Rattle.finite.specs.First.{first-ext, first-is}
 use Rattle.sheet.specs.Table.{tableLength, start, count, limit, itemLength, item, bodyEnd, due}
-use Rattle.sheet.specs.Faults.{tooShort, overLimitAt, overLimit, misplacedAt, misplaced, wrongEnd, layoutFaults, firstFault, faultOf}
+use Rattle.sheet.specs.Faults.{tooShort, overLimitAt, overLimit, misplacedAt, misplaced, lateAt, late, earlyAt, early, wrongEnd, layoutFaults, firstFault, faultOf}
 use Rattle.sheet.specs.Laid.{longestSheet, longest}
 use Rattle.sheet.specs.Faultless.{layout-laid, layout-decides}
+use Rattle.sheet.specs.Told.{noFault, tell, plain, orElse, else-next}
+use Rattle.sheet.specs.declared.Fault.{Fault}
 
 abbrev pub enoughBytes : ℕ
 enoughBytes = longestSheet + 1
@@ -49,46 +53,70 @@ due-enough s (suc e) l = end-enough s e (omega arith)
 starts-enough : (s : List ℕ) → misplaced (enough s) ≡ misplaced s
 unfolding misplaced misplacedAt
 starts-enough s =
-    any-ext 4 _ _ (λ e l. ap₂ (λ (a b : ℕ). not (eqb a b)) (start-enough s e l) (due-enough s e l))
+    first-ext 4 _ _ (λ e l. ap₂ (λ (a b : ℕ). not (eqb a b)) (start-enough s e l) (due-enough s e l))
 
--- A sheet that isn't too short has the first of faults 2 to 4, if any. One that is too long has one of them.
-abbrev ofThree : Bool → Bool → Bool → ℕ
-ofThree two three four = cond two 2 (cond three 3 (cond four 4 0))
+-- at the first wrong entry, which is one of the four, the same numbers are compared
+late-at : (s : List ℕ) (o : Option ℕ) → misplaced s ≡ o → (lateAt (enough s) o ≡ lateAt s o) × (earlyAt (enough s) o ≡ earlyAt s o)
+unfolding misplaced
+late-at s none is = (refl, refl)
+late-at s (some e) is =
+    let l = first-is (misplacedAt s) 4 e is .below in
+    let begin = start-enough s e l in
+    let end = due-enough s e l in
+    (ap₂ ltb end begin, ap₂ ltb begin end)
 
-long-fault : (s : List ℕ) → tableLength ≤ length s → firstFault layoutFaults s ≡ ofThree (overLimit s) (misplaced s) (wrongEnd s)
+late-enough : (s : List ℕ) → (late (enough s) ≡ late s) × (early (enough s) ≡ early s)
+unfolding late early
+late-enough s =
+    let same = late-at s (misplaced s) refl in
+    (ap (lateAt (enough s)) (starts-enough s) ∙ same .0, ap (earlyAt (enough s)) (starts-enough s) ∙ same .1)
+
+-- A sheet that isn't too short has the first of faults 2, 14, 15 and 4, if any. One that is too long has one of them.
+abbrev ofFour : Bool → Bool → Bool → Bool → Fault
+ofFour two late early four =
+    orElse (tell 2 (plain two)) (orElse (tell 14 (plain late)) (orElse (tell 15 (plain early)) (orElse (tell 4 (plain four)) noFault)))
+
+long-fault : (s : List ℕ) → tableLength ≤ length s → firstFault layoutFaults s ≡ ofFour (overLimit s) (late s) (early s) (wrongEnd s)
 unfolding layoutFaults firstFault tooShort
-long-fault s l = simp (le-ltb (length s) tableLength l)
+long-fault s l =
+    else-next _ _ (ap (λ (b : Bool). tell 1 (plain b) .number) (le-ltb (length s) tableLength l))
 
-too-long : (s : List ℕ) → enoughBytes ≤ length s → ¬ (firstFault layoutFaults s ≡ 0)
-too-long s l none = omega (arith, longest s (layout-laid s none))
+too-long : (s : List ℕ) → enoughBytes ≤ length s → ¬ (firstFault layoutFaults s .number ≡ 0)
+too-long s l clear = omega (arith, longest s (layout-laid s clear))
 
--- where both have one of the three and agree on 2 and 3, it is the same
-same-fault : (a b c d : Bool) → ¬ (ofThree a b c ≡ 0) → ¬ (ofThree a b d ≡ 0) → ofThree a b c ≡ ofThree a b d
-same-fault true b c d m n = refl
-same-fault false true c d m n = refl
-same-fault false false true true m n = refl
-same-fault false false true false m n = absurd (n refl)
-same-fault false false false d m n = absurd (m refl)
+-- where both have one of the four and agree on all but 4, it is the same
+same-fault : (a b c d e : Bool) → ¬ (ofFour a b c d .number ≡ 0) → ¬ (ofFour a b c e .number ≡ 0) → ofFour a b c d ≡ ofFour a b c e
+unfolding orElse
+same-fault true b c d e m n = refl
+same-fault false true c d e m n = refl
+same-fault false false true d e m n = refl
+same-fault false false false true true m n = refl
+same-fault false false false true false m n = absurd (n refl)
+same-fault false false false false e m n = absurd (m refl)
 
 module _ (s : List ℕ) (long : enoughBytes ≤ length s) where
   size : length (enough s) ≡ enoughBytes
   size = length-take-le enoughBytes s long
 
-  of-three : firstFault layoutFaults (enough s) ≡ ofThree (overLimit s) (misplaced s) (wrongEnd (enough s))
-  of-three =
+  of-four : firstFault layoutFaults (enough s) ≡ ofFour (overLimit s) (late s) (early s) (wrongEnd (enough s))
+  of-four =
+      let same = late-enough s in
       long-fault (enough s) (omega (arith, size))
-      ∙ ap₂ (λ (a b : Bool). ofThree a b (wrongEnd (enough s))) (limit-enough s) (starts-enough s)
+      ∙ ap₂ (λ (a b : Bool). ofFour a b (early (enough s)) (wrongEnd (enough s))) (limit-enough s) (same .0)
+      ∙ ap (λ (b : Bool). ofFour (overLimit s) (late s) b (wrongEnd (enough s))) (same .1)
 
   layout-enough : firstFault layoutFaults (enough s) ≡ firstFault layoutFaults s
   layout-enough =
       let whole = long-fault s (omega arith) in
-      of-three
-      ∙ same-fault (overLimit s) (misplaced s) (wrongEnd (enough s)) (wrongEnd s) (λ e. too-long (enough s) (omega (arith, size)) (of-three ∙ e)) (λ e. too-long s long (whole ∙ e))
+      of-four
+      ∙ same-fault (overLimit s) (late s) (early s) (wrongEnd (enough s)) (wrongEnd s)
+      (λ e. too-long (enough s) (omega (arith, size)) (ap (λ (f : Fault). f .number) of-four ∙ e))
+      (λ e. too-long s long (ap (λ (f : Fault). f .number) whole ∙ e))
       ∙ sym whole
 
   -- a sheet that is too long is faulty, and so is that much of it
-  pub long-faulty : ¬ (faultOf s ≡ 0)
-  long-faulty none = too-long s long (sym (layout-decides s (too-long s long)) ∙ none)
+  pub long-faulty : ¬ (faultOf s .number ≡ 0)
+  long-faulty clear = too-long s long (ap (λ (f : Fault). f .number) (sym (layout-decides s (too-long s long))) ∙ clear)
 
   fault-long : faultOf (enough s) ≡ faultOf s
   fault-long =

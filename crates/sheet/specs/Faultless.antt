@@ -1,12 +1,14 @@
 -- What is known of a sheet with no fault: its numbers are within their limits, its names name something, and its plan is sound and labelled.
-use Prim.Native.Nat.{ℕ, _<_, _≤_}
+use Prim.Native.Nat.{ℕ, zero, suc, _<_, _≤_}
 use native.Mathlib.Omega.{arith}
-use mathlib.Core.Bool.{Bool, true, false, cond, true≢false, _||_}
+use mathlib.Core.Bool.{Bool, true, false, true≢false, _||_}
 use mathlib.Core.List.{List, [], _∷_, _++_}
-use mathlib.Core.Path.{_≡_, refl}
+use mathlib.Core.Option.{Option, none, some}
+use mathlib.Core.Path.{_≡_, refl, sym, ap, _∙_}
 use borrow.Author.Tests.{ltb-false, leb-false, eqb-false}
-use lib.Dec.{T, leb, ltb, eqb, ltb→lt, leb→le}
+use lib.Dec.{T, leb, ltb, eqb, ltb→lt}
 use mir.Facts.{yes-and, yes-eqb}
+use Rattle.finite.specs.First.{first-none}
 use Rattle.finite.specs.Search.{search-none, fails}
 use Rattle.plan.specs.Net.{Plan, Labelled}
 use Rattle.plan.specs.Order.{Before, pair, chain, before, Sound}
@@ -14,49 +16,34 @@ use Rattle.plan.specs.Closure.{before-test}
 use Rattle.sheet.specs.Table.{placesOf, transitionsOf, eventsOf, pairsOf}
 use Rattle.sheet.specs.Items.{openingAt, takesAt, givesAt, labelAt, earlierAt, laterAt, netOf, planOf}
 use Rattle.sheet.specs.Faults.{overOpeningAt, overOpening, overWeightAt, overWeightIn, overWeight, noTransitionAt, noTransition, noEventAt, noEvent, selfPairAt, selfPair}
-use Rattle.sheet.specs.Faults.{repeated, samePair, repeatAt, cycleAt, cyclic, layoutFaults, itemFaults, orderFaults, contentFaults, faults, firstFault, faultOf}
-use Rattle.sheet.specs.Laid.{Laid, limited, laid}
+use Rattle.sheet.specs.Faults.{tooShort, overLimit, late, early, wrongEnd, repeated, samePair, repeatAt, cycleAt, cyclic}
+use Rattle.sheet.specs.Faults.{Finder, layoutFaults, itemFaults, orderFaults, contentFaults, faults, firstFault, faultOf}
+use Rattle.sheet.specs.Laid.{Laid, limited, placed, laid}
+use Rattle.sheet.specs.Told.{noFault, faultAt, tell, orElse, else-next, else-first, plain-none}
+use Rattle.sheet.specs.declared.Fault.{Fault}
 
 -- no fault of a list is there
-abbrev Absent : List (ℕ × (List ℕ → Bool)) → List ℕ → Type 0
+abbrev Absent : List (ℕ × Finder) → List ℕ → Type 0
 Absent [] s = Unit
-Absent (f ∷ fs) s = (f .1 s ≡ false) × Absent fs s
+Absent (f ∷ fs) s = (f .1 s ≡ none) × Absent fs s
 
 -- the numbers of a list of faults are above 0
-abbrev Numbered : List (ℕ × (List ℕ → Bool)) → Type 0
+abbrev Numbered : List (ℕ × Finder) → Type 0
 Numbered [] = Unit
 Numbered (f ∷ fs) = T (ltb 0 (f .0)) × Numbered fs
 
-passed : (b : Bool) (k rest : ℕ) → 0 < k → cond b k rest ≡ 0 → (b ≡ false) × (rest ≡ 0)
-passed true k rest l e = let none : ⊥ = omega arith in absurd none
-passed false k rest l e = (refl, e)
+passed : (k : ℕ) (o : Option ℕ) (rest : Fault) → 0 < k → orElse (tell k o) rest .number ≡ 0 → (o ≡ none) × (rest .number ≡ 0)
+passed k none rest l e = (refl, ap (λ (f : Fault). f .number) (sym (else-next noFault rest refl)) ∙ e)
+passed k (some i) rest l e =
+    let first = else-first (faultAt k i) rest (λ z. omega arith) in
+    absurd (omega (arith, ap (λ (f : Fault). f .number) first))
 
-absent : (fs : List (ℕ × (List ℕ → Bool))) (s : List ℕ) → Numbered fs → firstFault fs s ≡ 0 → Absent fs s
+absent : (fs : List (ℕ × Finder)) (s : List ℕ) → Numbered fs → firstFault fs s .number ≡ 0 → Absent fs s
 unfolding firstFault
 absent [] s numbered e = tt
 absent (f ∷ fs) s numbered e =
-    let here = passed (f .1 s) (f .0) (firstFault fs s) (ltb→lt 0 (f .0) (numbered .0)) e in
+    let here = passed (f .0) (f .1 s) (firstFault fs s) (ltb→lt 0 (f .0) (numbered .0)) e in
     (here .0, absent fs s (numbered .1) (here .1))
-
--- and at most k
-abbrev AtMost : ℕ → List (ℕ × (List ℕ → Bool)) → Type 0
-AtMost k [] = Unit
-AtMost k (f ∷ fs) = T (leb (f .0) k) × AtMost k fs
-
-either-most : (b : Bool) (x y k : ℕ) → x ≤ k → y ≤ k → cond b x y ≤ k
-either-most true x y k l m = l
-either-most false x y k l m = m
-
-first-most : (fs : List (ℕ × (List ℕ → Bool))) (s : List ℕ) (k : ℕ) → AtMost k fs → firstFault fs s ≤ k
-unfolding firstFault
-first-most [] s k h = omega arith
-first-most (f ∷ fs) s k h =
-    either-most (f .1 s) (f .0) (firstFault fs s) k (leb→le (f .0) k (h .0)) (first-most fs s k (h .1))
-
--- The faults of a sheet are numbered up to 11.
-pub fault-most : (s : List ℕ) → faultOf s ≤ 11
-unfolding faultOf faults layoutFaults itemFaults orderFaults contentFaults
-fault-most s = first-most faults s 11 (tt, (tt, (tt, (tt, (tt, (tt, (tt, (tt, (tt, (tt, (tt, tt)))))))))))
 
 pub record Faultless (s : List ℕ) : Type 0 where
   pub laid : Laid s
@@ -74,52 +61,62 @@ or-false : (a b : Bool) → a || b ≡ false → (a ≡ false) × (b ≡ false)
 or-false true b e = absurd (true≢false e)
 or-false false b e = (refl, e)
 
-weights : (s : List ℕ) → overWeight s ≡ false → (t p : ℕ) → t < transitionsOf s → p < placesOf s → (takesAt s t p ≤ 1000) × (givesAt s t p ≤ 1000)
+weights : (s : List ℕ) → overWeight s ≡ none → (t p : ℕ) → t < transitionsOf s → p < placesOf s → (takesAt s t p ≤ 1000) × (givesAt s t p ≤ 1000)
 unfolding overWeight overWeightIn overWeightAt
-weights s none t p l m =
+weights s light t p l m =
     let both =
     or-false
     (ltb 1000 (takesAt s t p))
     (ltb 1000 (givesAt s t p))
-    (search-none (placesOf s) (overWeightAt s t) (search-none (transitionsOf s) (overWeightIn s) none t l) p m)
+    (search-none (placesOf s) (overWeightAt s t) (first-none (overWeightIn s) (transitionsOf s) light t l) p m)
     in
     (ltb-false 1000 (takesAt s t p) (both .0), ltb-false 1000 (givesAt s t p) (both .1))
 
-pub ends : (s : List ℕ) → noEvent s ≡ false → (i : ℕ) → i < pairsOf s → (earlierAt s i < eventsOf s) × (laterAt s i < eventsOf s)
+pub ends : (s : List ℕ) → noEvent s ≡ none → (i : ℕ) → i < pairsOf s → (earlierAt s i < eventsOf s) × (laterAt s i < eventsOf s)
 unfolding noEvent noEventAt
-ends s none i l =
+ends s named i l =
     let both =
     or-false
     (leb (eventsOf s) (earlierAt s i))
     (leb (eventsOf s) (laterAt s i))
-    (search-none (pairsOf s) (noEventAt s) none i l)
+    (first-none (noEventAt s) (pairsOf s) named i l)
     in
     (leb-false (eventsOf s) (earlierAt s i) (both .0), leb-false (eventsOf s) (laterAt s i) (both .1))
 
-no-repeat : (s : List ℕ) → repeated s ≡ false → (i j : ℕ) → i < j → j < pairsOf s → earlierAt s i ≡ earlierAt s j → ¬ (laterAt s i ≡ laterAt s j)
+no-repeat : (s : List ℕ) → repeated s ≡ none → (i j : ℕ) → i < j → j < pairsOf s → earlierAt s i ≡ earlierAt s j → ¬ (laterAt s i ≡ laterAt s j)
 unfolding repeated repeatAt samePair
-no-repeat s none i j l m e d =
+no-repeat s once i j l m e d =
     fails
     (samePair s j i)
-    (search-none j (samePair s j) (search-none (pairsOf s) (repeatAt s) none j m) i l)
+    (search-none j (samePair s j) (first-none (repeatAt s) (pairsOf s) once j m) i l)
     (yes-and (eqb (earlierAt s i) (earlierAt s j)) (eqb (laterAt s i) (laterAt s j)) (yes-eqb e) (yes-eqb d))
 
-pub faultless : (s : List ℕ) → faultOf s ≡ 0 → Faultless s
+-- the bodies stand where they should
+stand : (s : List ℕ) → Absent layoutFaults s → Laid s
+unfolding layoutFaults
+stand s a =
+    laid
+    s
+    (limited s (plain-none (tooShort s) (a .0)) (plain-none (overLimit s) (a .1 .0)))
+    (placed s (plain-none (late s) (a .1 .1 .0)) (plain-none (early s) (a .1 .1 .1 .0)))
+    (plain-none (wrongEnd s) (a .1 .1 .1 .1 .0))
+
+pub faultless : (s : List ℕ) → faultOf s .number ≡ 0 → Faultless s
 unfolding faultOf faults layoutFaults itemFaults orderFaults contentFaults overOpening overOpeningAt noTransition noTransitionAt selfPair selfPairAt cyclic cycleAt
 faultless s e =
-    let a = absent faults s (tt, (tt, (tt, (tt, (tt, (tt, (tt, (tt, (tt, (tt, (tt, tt))))))))))) e in
-    let b = a .1 .1 .1 .1 in
+    let a = absent faults s (tt, (tt, (tt, (tt, (tt, (tt, (tt, (tt, (tt, (tt, (tt, (tt, tt)))))))))))) e in
+    let b = a .1 .1 .1 .1 .1 in
     record {
-      laid = laid s (limited s (a .0) (a .1 .0)) (a .1 .1 .0) (a .1 .1 .1 .0);
-      openings = λ p l. ltb-false 1000000 (openingAt s p) (search-none (placesOf s) (overOpeningAt s) (b .0) p l);
+      laid = stand s (a .0, (a .1 .0, (a .1 .1 .0, (a .1 .1 .1 .0, (a .1 .1 .1 .1 .0, tt)))));
+      openings = λ p l. ltb-false 1000000 (openingAt s p) (first-none (overOpeningAt s) (placesOf s) (b .0) p l);
       takes = λ t p l m. weights s (b .1 .0) t p l m .0;
       gives = λ t p l m. weights s (b .1 .0) t p l m .1;
-      labels = λ v l. leb-false (transitionsOf s) (labelAt s v) (search-none (eventsOf s) (noTransitionAt s) (b .1 .1 .0) v l);
+      labels = λ v l. leb-false (transitionsOf s) (labelAt s v) (first-none (noTransitionAt s) (eventsOf s) (b .1 .1 .0) v l);
       earlier = λ i l. ends s (b .1 .1 .1 .0) i l .0;
       later = λ i l. ends s (b .1 .1 .1 .0) i l .1;
-      apart = λ i l. eqb-false (earlierAt s i) (laterAt s i) (search-none (pairsOf s) (selfPairAt s) (b .1 .1 .1 .1 .0) i l);
+      apart = λ i l. eqb-false (earlierAt s i) (laterAt s i) (first-none (selfPairAt s) (pairsOf s) (b .1 .1 .1 .1 .0) i l);
       once = no-repeat s (b .1 .1 .1 .1 .1 .0);
-      acyclic = λ v l. search-none (eventsOf s) (cycleAt s) (b .1 .1 .1 .1 .1 .1 .0) v l;
+      acyclic = λ v l. search-none (eventsOf s) (cycleAt s) (plain-none (cyclic s) (b .1 .1 .1 .1 .1 .1 .0)) v l;
     }
 
 -- what is before something is an event
@@ -138,33 +135,39 @@ sound s known =
 pub labelled : (s : List ℕ) → Faultless s → Labelled (netOf s) (planOf s)
 labelled s known = record { named = known .labels }
 
--- Faults 1 to 4 decide, or are absent and leave it to the rest.
-decided : (b : Bool) (k x z : ℕ) → (¬ (x ≡ 0) → z ≡ x) → ¬ (cond b k x ≡ 0) → cond b k z ≡ cond b k x
-decided true k x z h n = refl
-decided false k x z h n = h n
+-- The faults of the layout decide, or are absent and leave it to the rest.
+decided : (f x z : Fault) → (¬ (x .number ≡ 0) → z ≡ x) → ¬ (orElse f x .number ≡ 0) → (k : ℕ) → f .number ≡ k → orElse f z ≡ orElse f x
+decided f x z h n zero e =
+    let next = else-next f x e in
+    else-next f z e ∙ h (λ clear. n (ap (λ (g : Fault). g .number) next ∙ clear)) ∙ sym next
+decided f x z h n (suc k) e =
+    let there : ¬ (f .number ≡ 0) = λ clear. omega arith in
+    else-first f z there ∙ sym (else-first f x there)
 
-first-decides : (fs gs : List (ℕ × (List ℕ → Bool))) (s : List ℕ) → ¬ (firstFault fs s ≡ 0) → firstFault (fs ++ gs) s ≡ firstFault fs s
+first-decides : (fs gs : List (ℕ × Finder)) (s : List ℕ) → ¬ (firstFault fs s .number ≡ 0) → firstFault (fs ++ gs) s ≡ firstFault fs s
 unfolding firstFault
 first-decides [] gs s n = absurd (n refl)
 first-decides (f ∷ fs) gs s n =
-    decided (f .1 s) (f .0) (firstFault fs s) (firstFault (fs ++ gs) s) (first-decides fs gs s) n
+    decided (tell (f .0) (f .1 s)) (firstFault fs s) (firstFault (fs ++ gs) s) (first-decides fs gs s) n _ refl
 
-left-over : (fs gs : List (ℕ × (List ℕ → Bool))) (s : List ℕ) → Absent fs s → firstFault (fs ++ gs) s ≡ firstFault gs s
+left-over : (fs gs : List (ℕ × Finder)) (s : List ℕ) → Absent fs s → firstFault (fs ++ gs) s ≡ firstFault gs s
 unfolding firstFault
 left-over [] gs s a = refl
-left-over (f ∷ fs) gs s a = simp (a .0, left-over fs gs s (a .1))
+left-over (f ∷ fs) gs s a =
+    else-next (tell (f .0) (f .1 s)) (firstFault (fs ++ gs) s) (ap (λ (o : Option ℕ). tell (f .0) o .number) (a .0))
+    ∙ left-over fs gs s (a .1)
 
-pub layout-decides : (s : List ℕ) → ¬ (firstFault layoutFaults s ≡ 0) → faultOf s ≡ firstFault layoutFaults s
+pub layout-decides : (s : List ℕ) → ¬ (firstFault layoutFaults s .number ≡ 0) → faultOf s ≡ firstFault layoutFaults s
 unfolding faultOf faults
 layout-decides s n = first-decides layoutFaults contentFaults s n
 
-pub layout-laid : (s : List ℕ) → firstFault layoutFaults s ≡ 0 → Laid s
+layout-absent : (s : List ℕ) → firstFault layoutFaults s .number ≡ 0 → Absent layoutFaults s
 unfolding layoutFaults
-layout-laid s e =
-    let a = absent layoutFaults s (tt, (tt, (tt, (tt, tt)))) e in
-    laid s (limited s (a .0) (a .1 .0)) (a .1 .1 .0) (a .1 .1 .1 .0)
+layout-absent s e = absent layoutFaults s (tt, (tt, (tt, (tt, (tt, tt))))) e
 
-pub content-decides : (s : List ℕ) → firstFault layoutFaults s ≡ 0 → faultOf s ≡ firstFault contentFaults s
-unfolding faultOf faults layoutFaults
-content-decides s e =
-    left-over layoutFaults contentFaults s (absent layoutFaults s (tt, (tt, (tt, (tt, tt)))) e)
+pub layout-laid : (s : List ℕ) → firstFault layoutFaults s .number ≡ 0 → Laid s
+layout-laid s e = stand s (layout-absent s e)
+
+pub content-decides : (s : List ℕ) → firstFault layoutFaults s .number ≡ 0 → faultOf s ≡ firstFault contentFaults s
+unfolding faultOf faults
+content-decides s e = left-over layoutFaults contentFaults s (layout-absent s e)

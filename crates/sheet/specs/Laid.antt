@@ -1,17 +1,19 @@
--- What is known of a sheet once faults 1 to 4 are absent: its counts are within the limits and its bodies stand where they should.
+-- What is known of a sheet once faults 1, 2, 14, 15 and 4 are absent: its counts are within the limits and its bodies stand where they should.
 use Prim.Native.Nat.{ℕ, suc, _+_, _*_, _<_, _≤_}
 use native.Mathlib.Omega.{arith}
 use native.Mathlib.Nat.{mul-le-mul, mul-le-mul-left, mul-suc}
-use mathlib.Core.Bool.{false}
+use mathlib.Core.Bool.{true, false, not, true≢false}
 use mathlib.Core.List.{List}
-use mathlib.Core.Path.{_≡_}
-use borrow.Author.Tests.{ltb-false, eqb-true, not-false}
-use lib.Dec.{eqb}
+use mathlib.Core.Option.{Option, none, some}
+use mathlib.Core.Path.{_≡_, refl, sym, ap, _∙_}
+use borrow.Author.Tests.{ltb-false, eq-eqb, eqb-true, not-false}
+use lib.Dec.{eqb, ltb}
 use lib.ListN.{length}
+use Rattle.finite.specs.First.{first-none, first-is}
 use Rattle.finite.specs.Search.{search-none}
 use Rattle.ids.specs.Limits.{mostPlaces, mostTransitions, mostEvents, mostPairs}
 use Rattle.sheet.specs.Table.{tableLength, start, count, limit, itemLength, item, bodyEnd, due, placesOf, transitionsOf, eventsOf, pairsOf}
-use Rattle.sheet.specs.Faults.{tooShort, overLimitAt, overLimit, misplacedAt, misplaced, wrongEnd}
+use Rattle.sheet.specs.Faults.{tooShort, overLimitAt, overLimit, misplacedAt, misplaced, lateAt, late, earlyAt, early, wrongEnd}
 
 -- faults 1 and 2 are absent
 pub record Limited (s : List ℕ) : Type 0 where
@@ -21,7 +23,7 @@ pub record Limited (s : List ℕ) : Type 0 where
   pub events : eventsOf s ≤ mostEvents
   pub pairs : pairsOf s ≤ mostPairs
 
--- faults 1 to 4 are absent
+-- faults 1, 2, 14, 15 and 4 are absent
 pub record Laid (s : List ℕ) : Type 0 where
   pub limited : Limited s
   pub places-start : start s 0 ≡ tableLength
@@ -32,7 +34,7 @@ pub record Laid (s : List ℕ) : Type 0 where
 
 within : (s : List ℕ) → overLimit s ≡ false → (e : ℕ) → e < 4 → count s e ≤ limit e
 unfolding overLimit overLimitAt
-within s none e l = ltb-false (limit e) (count s e) (search-none 4 (overLimitAt s) none e l)
+within s few e l = ltb-false (limit e) (count s e) (search-none 4 (overLimitAt s) few e l)
 
 pub whole : (s : List ℕ) → tooShort s ≡ false → tableLength ≤ length s
 unfolding tooShort
@@ -40,29 +42,46 @@ whole s absent = ltb-false (length s) tableLength absent
 
 pub limited : (s : List ℕ) → tooShort s ≡ false → overLimit s ≡ false → Limited s
 unfolding limit
-limited s long none =
+limited s long few =
     record {
       table = whole s long;
-      places = within s none 0 (omega arith);
-      transitions = within s none 1 (omega arith);
-      events = within s none 2 (omega arith);
-      pairs = within s none 3 (omega arith);
+      places = within s few 0 (omega arith);
+      transitions = within s few 1 (omega arith);
+      events = within s few 2 (omega arith);
+      pairs = within s few 3 (omega arith);
     }
 
-pub starts : (s : List ℕ) → misplaced s ≡ false → (e : ℕ) → e < 4 → start s e ≡ due s e
-unfolding misplaced misplacedAt
-starts s none e l =
-    eqb-true (start s e) (due s e) (not-false (eqb (start s e) (due s e)) (search-none 4 (misplacedAt s) none e l))
+-- a start that is neither above nor below what is due is right
+apart : (s : List ℕ) (e : ℕ) → misplacedAt s e ≡ true → ltb (due s e) (start s e) ≡ false → ltb (start s e) (due s e) ≡ false → ⊥
+unfolding misplacedAt
+apart s e wrong low high =
+    let same : start s e ≡ due s e = omega (arith, ltb-false (due s e) (start s e) low, ltb-false (start s e) (due s e) high) in
+    true≢false (sym wrong ∙ ap not (eq-eqb (start s e) (due s e) same))
 
-pub laid : (s : List ℕ) → Limited s → misplaced s ≡ false → wrongEnd s ≡ false → Laid s
+placed-by : (s : List ℕ) (o : Option ℕ) → misplaced s ≡ o → lateAt s o ≡ false → earlyAt s o ≡ false → misplaced s ≡ none
+unfolding misplaced
+placed-by s none is low high = is
+placed-by s (some e) is low high = absurd (apart s e (first-is (misplacedAt s) 4 e is .passes) low high)
+
+-- 14 and 15 are absent
+pub placed : (s : List ℕ) → late s ≡ false → early s ≡ false → misplaced s ≡ none
+unfolding late early
+placed s low high = placed-by s (misplaced s) refl low high
+
+pub starts : (s : List ℕ) → misplaced s ≡ none → (e : ℕ) → e < 4 → start s e ≡ due s e
+unfolding misplaced misplacedAt
+starts s right e l =
+    eqb-true (start s e) (due s e) (not-false (eqb (start s e) (due s e)) (first-none (misplacedAt s) 4 right e l))
+
+pub laid : (s : List ℕ) → Limited s → misplaced s ≡ none → wrongEnd s ≡ false → Laid s
 unfolding due bodyEnd item itemLength wrongEnd
-laid s known none ends =
+laid s known right ends =
     record {
       limited = known;
-      places-start = starts s none 0 (omega arith);
-      transitions-start = starts s none 1 (omega arith);
-      events-start = starts s none 2 (omega arith);
-      pairs-start = starts s none 3 (omega arith);
+      places-start = starts s right 0 (omega arith);
+      transitions-start = starts s right 1 (omega arith);
+      events-start = starts s right 2 (omega arith);
+      pairs-start = starts s right 3 (omega arith);
       end = eqb-true (length s) (bodyEnd s 3) (not-false (eqb (length s) (bodyEnd s 3)) ends);
     }
 

@@ -1,8 +1,10 @@
 pub mod Table
 pub mod Items
+pub mod Told
 pub mod Faults
 pub mod Laid
 pub mod Faultless
 pub mod Chain
 pub mod Examples
 pub mod Enough
+pub mod Located

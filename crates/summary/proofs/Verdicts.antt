@@ -1,18 +1,16 @@
 -- The summary of the first places, one place after another.
-use Prim.Native.Nat.{ℕ, zero, suc, _+_, _≤_, _<_}
-use native.Mathlib.Nat.{le-suc-iff}
-use native.Mathlib.Numerals.{add-one}
+use Prim.Native.Nat.{ℕ, _+_, _≤_, _<_}
 use native.Mathlib.Omega.{arith}
-use mathlib.Core.Bool.{Bool}
-use mathlib.Core.Logic.{⊎-elim}
-use mathlib.Core.Path.{_≡_, refl, sym, ap, ap₂, _∙_}
+use mathlib.Core.Bool.{Bool, false}
+use mathlib.Core.Path.{_≡_, refl, sym, ap, _∙_}
 use borrow.Author.Tests.{lt-ltb, le-ltb}
 use lib.Dec.{ltb}
+use Rattle.finite.specs.Bounded.{any}
+use Rattle.finite.specs.First.{first-found, first-done}
+use Rattle.finite.specs.Search.{search-start, search-more}
 use Rattle.finite.specs.Sum.{on, sum-start, sum-more}
-use Rattle.ids.specs.declared.Place.{Place}
-use Rattle.summary.specs.declared.Verdict.{Verdict}
 use Rattle.summary.specs.declared.Verdict.the-variants.{Runs, Short}
-use Rattle.summary.specs.Summary.{totalMissing, shortPlaces, decides, verdictOf}
+use Rattle.summary.specs.Summary.{totalMissing, shortPlaces, shortNumber, shortCount, VerdictOf}
 
 module _ (missing : ℕ → ℕ) where
   pub total-none : totalMissing missing 0 ≡ 0
@@ -35,35 +33,21 @@ module _ (missing : ℕ → ℕ) where
   unfolding shortPlaces
   short-same p l = omega (arith, sum-more p (λ q. on (ltb 0 (missing q)) 1), ap (λ (b : Bool). on b 1) (le-ltb 0 (missing p) l))
 
-  pub runs-none : verdictOf missing 0 ≡ Runs
-  unfolding verdictOf
-  runs-none = refl
+  -- no place so far is short: none of them passes the test of a short place
+  pub none-short : (p : ℕ) → p ≡ 0 → any p (λ q. ltb 0 (missing q)) ≡ false
+  none-short p e = rw e (search-start _)
 
-  -- a place that isn't short
-  pub runs-more : (p : ℕ) → verdictOf missing p ≡ Runs → missing p ≤ 0 → verdictOf missing (p + 1) ≡ Runs
-  unfolding verdictOf
-  runs-more p e l = ap (verdictOf missing) (add-one p) ∙ ap₂ (λ (v : Verdict) (b : Bool). decides v b p (missing p)) e (le-ltb 0 (missing p) l)
-
-  -- the first short place stays the verdict
-  stays : (k n : ℕ) (q : Place) (m : ℕ) → verdictOf missing k ≡ Short q m → k ≤ n → verdictOf missing n ≡ Short q m
-  unfolding verdictOf
-  stays k zero q m e l = let h : zero ≡ k = omega arith in ap (verdictOf missing) h ∙ e
-  stays k (suc n) q m e l =
-      ⊎-elim
-      (λ low. ap (λ (v : Verdict). decides v (ltb 0 (missing n)) n (missing n)) (stays k n q m e low))
-      (λ same. ap (verdictOf missing) (sym same) ∙ e)
-      (le-suc-iff .0 l)
+  pub more-none : (p : ℕ) → any p (λ q. ltb 0 (missing q)) ≡ false → missing p ≤ 0 → any (p + 1) (λ q. ltb 0 (missing q)) ≡ false
+  more-none p none-so-far l = search-more _ p none-so-far (le-ltb 0 (missing p) l)
 
   -- the place and the count that are told
-  pub short-found : (p n q m : ℕ) → verdictOf missing p ≡ Runs → 0 < missing p → p < n → q ≡ p → m ≡ missing p
-      → verdictOf missing n ≡ Short (record { 0 = q }) m
-  unfolding verdictOf
-  short-found p n q m e l h at is =
-      rw (at, is)
-      (stays
-      (suc p)
-      n
-      (record { 0 = p })
-      (missing p)
-      (ap₂ (λ (v : Verdict) (b : Bool). decides v b p (missing p)) e (lt-ltb 0 (missing p) l))
-      h)
+  pub short-told : (p n q m : ℕ) → any p (λ q. ltb 0 (missing q)) ≡ false → 0 < missing p → p < n → q ≡ p → m ≡ missing p
+      → VerdictOf missing n (Short (record { 0 = q }) m)
+  short-told p n q m none-so-far l h at is =
+      let found = first-found (λ q. ltb 0 (missing q)) n n p refl h none-so-far (lt-ltb 0 (missing p) l) in
+      (omega (arith, ap shortNumber found), is ∙ sym (ap (shortCount missing) found))
+
+  pub runs-told : (p n : ℕ) → any p (λ q. ltb 0 (missing q)) ≡ false → n ≤ p → VerdictOf missing n Runs
+  runs-told p n none-so-far h =
+      let nothing = first-done (λ q. ltb 0 (missing q)) n n p refl h none-so-far in
+      (sym (ap shortNumber nothing), sym (ap (shortCount missing) nothing))

@@ -1,64 +1,143 @@
 -- What the verdict says, and that counts which agree come to the same.
-use Prim.Native.Nat.{ℕ, zero, suc, _+_, _<_}
-use native.Mathlib.Nat.{le-step, lt-suc-self, not-suc-le-zero}
+use Prim.Native.Nat.{ℕ, _+_, _≤_, _<_}
 use native.Mathlib.Omega.{arith}
-use mathlib.Core.Bool.{Bool, true, false}
-use mathlib.Core.Logic.{_↔_}
-use mathlib.Core.Path.{_≡_, refl, ap, ap₂, subst}
+use mathlib.Core.Logic.{_↔_, ⊎-elim}
+use mathlib.Core.Option.{Option, none, some}
+use mathlib.Core.Path.{_≡_, refl, sym, ap, subst, _∙_}
 use borrow.Author.Tests.{ltb-true, ltb-false}
-use lib.Dec.{ltb}
-use Rattle.finite.specs.Bounded.{below-suc}
+use lib.Dec.{ltb, ltb→lt, nltb→le}
+use Rattle.finite.specs.Bounded.{decide}
+use Rattle.finite.specs.First.{first-is, first-none, first-ext}
 use Rattle.finite.specs.Sum.{on, sum-ext}
+use Rattle.summary.specs.declared.Totals.{Totals}
 use Rattle.summary.specs.declared.Verdict.{Verdict}
 use Rattle.summary.specs.declared.Verdict.the-variants.{Runs, Short}
-use Rattle.summary.specs.Summary.{totalMissing, shortPlaces, decides, verdictOf, verdictNumber}
+use Rattle.summary.specs.Summary.{totalMissing, shortPlaces, firstShort, verdictNumber, verdictCount, shortNumber, shortCount, VerdictOf, PlanValues, valuesIn, valuesOf}
 
--- Nothing is missing at any place; or it is at a place of the n, by the count told, and at no place before it.
+-- The place q is the first short one,
+pub record IsFirst (missing : ℕ → ℕ) (q : ℕ) : Type 0 where
+  pub short : 0 < missing q
+  pub before : (p : ℕ) → p < q → missing p ≡ 0
+
+-- and one of n places.
+abbrev pub FirstIn : (ℕ → ℕ) → ℕ → ℕ → Type 0
+FirstIn missing n q = (q < n) × IsFirst missing q
+
+-- Nothing is missing at any place; or it is at a first place, by the count told.
 abbrev pub VerdictSays : (ℕ → ℕ) → ℕ → Verdict → Type 0
 VerdictSays missing n Runs = (p : ℕ) → p < n → missing p ≡ 0
-VerdictSays missing n (Short q m) = (q .0 < n) × (0 < m) × (missing (q .0) ≡ m) × ((p : ℕ) → p < q .0 → missing p ≡ 0)
+VerdictSays missing n (Short q m) = FirstIn missing n (q .0) × (missing (q .0) ≡ m)
 
-module _ (missing : ℕ → ℕ) where
-  decided : (n : ℕ) (v : Verdict) (b : Bool) → ltb 0 (missing n) ≡ b → VerdictSays missing n v → VerdictSays missing (suc n) (decides v b n (missing n))
-  decided n Runs false e h =
-      λ p l. below-suc n p l (h p) (λ same. let none = ltb-false 0 (missing n) e in omega (arith, ap missing same))
-  decided n Runs true e h = (lt-suc-self n, ltb-true 0 (missing n) e, refl, h)
-  decided n (Short q m) b e h = (le-step (h .0), h .1, h .2, h .3)
+module _ (missing : ℕ → ℕ) (n : ℕ) where
+  -- the first short place is none, or one that is short with none before it
+  abbrev FirstSays : Option ℕ → Type 0
+  FirstSays none = (p : ℕ) → p < n → missing p ≡ 0
+  FirstSays (some q) = FirstIn missing n q
 
-  pub verdict-says : (n : ℕ) → VerdictSays missing n (verdictOf missing n)
-  unfolding verdictOf
-  verdict-says zero = λ p l. absurd (not-suc-le-zero l)
-  verdict-says (suc n) = decided n (verdictOf missing n) (ltb 0 (missing n)) refl (verdict-says n)
+  says-by : (o : Option ℕ) → firstShort missing n ≡ o → FirstSays o
+  says-by none e = λ p l. let few = ltb-false 0 (missing p) (first-none (λ q. ltb 0 (missing q)) n e p l) in omega arith
+  says-by (some q) e =
+      let found = first-is (λ p. ltb 0 (missing p)) n q e in
+      let few : (p : ℕ) → p < q → missing p ≡ 0 = λ p l. let none-there = ltb-false 0 (missing p) (found .before p l) in omega arith in
+      (found .below, record { short = ltb-true 0 (missing q) (found .passes); before = few })
 
-  runs-when : (n : ℕ) (v : Verdict) → VerdictSays missing n v → ((p : ℕ) → p < n → missing p ≡ 0) → v ≡ Runs
-  runs-when n Runs h none = refl
-  runs-when n (Short q m) h none = let some : ⊥ = omega (arith, h .1, h .2, none (q .0) (h .0)) in absurd some
+  number-fits : (o : Option ℕ) → FirstSays o → shortNumber o < 1000 + n
+  number-fits none h = omega arith
+  number-fits (some q) h = omega (arith, h .0)
 
-  -- The verdict is Runs exactly if nothing is missing at any place.
-  pub verdict-runs : (n : ℕ) → (verdictOf missing n ≡ Runs) ↔ ((p : ℕ) → p < n → missing p ≡ 0)
-  verdict-runs n = (
-    λ e. subst (VerdictSays missing n) e (verdict-says n),
-    runs-when n (verdictOf missing n) (verdict-says n),
-  )
+  pub verdict-fits : shortNumber (firstShort missing n) < 1000 + n
+  verdict-fits = number-fits (firstShort missing n) (says-by (firstShort missing n) refl)
 
-  number-fits : (n : ℕ) (v : Verdict) → VerdictSays missing n v → verdictNumber v < 1000 + n
-  number-fits n Runs h = omega arith
-  number-fits n (Short q m) h = omega (arith, h .0)
+  far-from-13 : (o : Option ℕ) → ¬ (shortNumber o ≡ 13)
+  far-from-13 none e = omega arith
+  far-from-13 (some q) e = omega arith
 
-  pub verdict-fits : (n : ℕ) → verdictNumber (verdictOf missing n) < 1000 + n
-  verdict-fits n = number-fits n (verdictOf missing n) (verdict-says n)
+  pub not-13 : ¬ (shortNumber (firstShort missing n) ≡ 13)
+  not-13 = far-from-13 (firstShort missing n)
 
-module _ (f g : ℕ → ℕ) where
-  pub total-agrees : (n : ℕ) → ((p : ℕ) → p < n → f p ≡ g p) → totalMissing f n ≡ totalMissing g n
-  unfolding totalMissing
-  total-agrees n e = sum-ext n f g e
+  verdict-by : (v : Verdict) (o : Option ℕ) → FirstSays o → verdictNumber v ≡ shortNumber o → verdictCount v ≡ shortCount missing o → VerdictSays missing n v
+  verdict-by Runs none h number count = h
+  verdict-by Runs (some q) h number count = absurd (omega arith)
+  verdict-by (Short p m) none h number count = absurd (omega arith)
+  verdict-by (Short p m) (some q) h number count =
+      let same : p .0 ≡ q = omega arith in
+      (subst (FirstIn missing n) (sym same) h, ap missing same ∙ sym count)
 
-  pub short-agrees : (n : ℕ) → ((p : ℕ) → p < n → f p ≡ g p) → shortPlaces f n ≡ shortPlaces g n
-  unfolding shortPlaces
-  short-agrees n e = sum-ext n (λ p. on (ltb 0 (f p)) 1) (λ p. on (ltb 0 (g p)) 1) (λ p l. ap (λ (m : ℕ). on (ltb 0 m) 1) (e p l))
+  pub verdict-says : (v : Verdict) → VerdictOf missing n v → VerdictSays missing n v
+  verdict-says v is = verdict-by v (firstShort missing n) (says-by (firstShort missing n) refl) (is .0) (is .1)
 
-  pub verdict-agrees : (n : ℕ) → ((p : ℕ) → p < n → f p ≡ g p) → verdictOf f n ≡ verdictOf g n
-  unfolding verdictOf
-  verdict-agrees zero e = refl
-  verdict-agrees (suc n) e =
-      ap₂ (λ (v : Verdict) (m : ℕ). decides v (ltb 0 m) n m) (verdict-agrees n (λ p l. e p (le-step l))) (e n (lt-suc-self n))
+  none-when : (o : Option ℕ) → FirstSays o → ((p : ℕ) → p < n → missing p ≡ 0) → shortNumber o ≡ 0
+  none-when none h nothing = refl
+  none-when (some q) h nothing = absurd (omega (arith, h .1 .short, nothing q (h .0)))
+
+  none-so : (o : Option ℕ) → FirstSays o → shortNumber o ≡ 0 → (p : ℕ) → p < n → missing p ≡ 0
+  none-so none h e = h
+  none-so (some q) h e = absurd (omega arith)
+
+  -- The number is 0 exactly if nothing is missing at any place,
+  pub runs-number : (shortNumber (firstShort missing n) ≡ 0) ↔ ((p : ℕ) → p < n → missing p ≡ 0)
+  runs-number =
+      let says = says-by (firstShort missing n) refl in
+      (none-so (firstShort missing n) says, none-when (firstShort missing n) says)
+
+  first-so : (o : Option ℕ) → FirstSays o → (q : ℕ) → shortNumber o ≡ 1000 + q → FirstIn missing n q
+  first-so none h q e = absurd (omega arith)
+  first-so (some p) h q e = let same : p ≡ q = omega arith in subst (FirstIn missing n) same h
+
+  first-when : (o : Option ℕ) → FirstSays o → (q : ℕ) → FirstIn missing n q → shortNumber o ≡ 1000 + q
+  first-when none h q f = absurd (omega (arith, f .1 .short, h q (f .0)))
+  first-when (some p) h q f =
+      let low : p ≤ q =
+      ⊎-elim
+      (λ t. absurd (omega (arith, f .1 .short, h .1 .before q (ltb→lt q p t))))
+      (λ t. nltb→le q p t)
+      (decide (ltb q p))
+      in
+      let high : q ≤ p =
+      ⊎-elim
+      (λ t. absurd (omega (arith, h .1 .short, f .1 .before p (ltb→lt p q t))))
+      (λ t. nltb→le p q t)
+      (decide (ltb p q))
+      in
+      omega arith
+
+  -- and 1,000 plus the number of a place exactly if that is the first short one.
+  pub short-number : (q : ℕ) → (shortNumber (firstShort missing n) ≡ 1000 + q) ↔ FirstIn missing n q
+  short-number q =
+      let says = says-by (firstShort missing n) refl in
+      (first-so (firstShort missing n) says q, first-when (firstShort missing n) says q)
+
+module _ (f g : ℕ → ℕ) (n : ℕ) (same : (p : ℕ) → p < n → f p ≡ g p) where
+  first-agrees : firstShort f n ≡ firstShort g n
+  first-agrees = first-ext n (λ p. ltb 0 (f p)) (λ p. ltb 0 (g p)) (λ p l. ap (ltb 0) (same p l))
+
+  count-agrees : (o : Option ℕ) → firstShort g n ≡ o → shortCount f o ≡ shortCount g o
+  count-agrees none e = refl
+  count-agrees (some q) e = same q (first-is (λ p. ltb 0 (g p)) n q e .below)
+
+  -- counts that agree have the same values
+  pub values-agree : valuesOf f n ≡ valuesOf g n
+  unfolding valuesOf totalMissing shortPlaces
+  values-agree =
+      λ i.
+      record {
+        total = sum-ext n f g same i;
+        short = sum-ext n (λ p. on (ltb 0 (f p)) 1) (λ p. on (ltb 0 (g p)) 1) (λ p l. ap (λ (m : ℕ). on (ltb 0 m) 1) (same p l)) i;
+        number = shortNumber (first-agrees i);
+        count = (ap (shortCount f) first-agrees ∙ count-agrees (firstShort g n) refl) i;
+      }
+
+-- Verdicts that say the same two numbers are the same,
+same-verdict : (v w : Verdict) → verdictNumber v ≡ verdictNumber w → verdictCount v ≡ verdictCount w → v ≡ w
+same-verdict Runs Runs number count = refl
+same-verdict Runs (Short q m) number count = let wrong : ⊥ = omega arith in absurd wrong
+same-verdict (Short p k) Runs number count = let wrong : ⊥ = omega arith in absurd wrong
+same-verdict (Short p k) (Short q m) number count =
+    let same : p .0 ≡ q .0 = omega arith in
+    λ i. Short (record { 0 = same i }) (count i)
+
+-- and so are totals with the same values.
+pub values-once : (t u : Totals) → valuesIn t ≡ valuesIn u → t ≡ u
+values-once t u e =
+    let same = same-verdict (t .verdict) (u .verdict) (ap (λ (v : PlanValues). v .number) e) (ap (λ (v : PlanValues). v .count) e) in
+    λ i. record { total = e i .total; short = e i .short; verdict = same i }

@@ -1,9 +1,11 @@
 -- The answer of the plan judgement. Document 01, "Calls": the total missing, the number of short places, and a verdict.
-use Prim.Native.Nat.{ℕ, zero, suc, _+_, _≤_, _<_}
-use mathlib.Core.Bool.{Bool, true, false}
+use Prim.Native.Nat.{ℕ, _+_, _≤_, _<_}
 use mathlib.Core.List.{List}
+use mathlib.Core.Option.{Option, none, some}
+use mathlib.Core.Path.{_≡_}
 use lib.Dec.{ltb}
 use lib.ListN.{getD}
+use Rattle.finite.specs.First.{first}
 use Rattle.finite.specs.Sum.{sum, on}
 use Rattle.ids.specs.Limits.{mostPlaces}
 use Rattle.summary.specs.declared.Totals.{Totals}
@@ -17,23 +19,12 @@ totalMissing missing n = sum n missing
 unfoldable pub shortPlaces : (ℕ → ℕ) → ℕ → ℕ
 shortPlaces missing n = sum n (λ p. on (ltb 0 (missing p)) 1)
 
--- A place that is short by m decides where no place before it did.
-abbrev pub decides : Verdict → Bool → ℕ → ℕ → Verdict
-decides Runs false p m = Runs
-decides Runs true p m = Short (record { 0 = p }) m
-decides (Short q k) b p m = Short q k
+-- the first short place, if there is one
+abbrev pub firstShort : (ℕ → ℕ) → ℕ → Option ℕ
+firstShort missing n = first n (λ p. ltb 0 (missing p))
 
--- Runs, or short with the first short place and its missing count.
-unfoldable pub verdictOf : (ℕ → ℕ) → ℕ → Verdict
-verdictOf missing zero = Runs
-verdictOf missing (suc n) = decides (verdictOf missing n) (ltb 0 (missing n)) n (missing n)
-
--- all three
-abbrev pub totalsIn : (ℕ → ℕ) → ℕ → Totals
-totalsIn missing n =
-    record { total = totalMissing missing n; short = shortPlaces missing n; verdict = verdictOf missing n }
-
--- The number of each case, which the till server gets: 0 for a plan that runs, or 1,000 plus the number of the first short place,
+-- What each case of a verdict says: the number that the till server gets, 0 for a plan that runs, or 1,000 plus the number of the first
+-- short place,
 abbrev pub verdictNumber : Verdict → ℕ
 verdictNumber Runs = 0
 verdictNumber (Short p m) = 1000 + p .0
@@ -42,6 +33,42 @@ verdictNumber (Short p m) = 1000 + p .0
 abbrev pub verdictCount : Verdict → ℕ
 verdictCount Runs = 0
 verdictCount (Short p m) = m
+
+-- what the two have to be, by the first short place
+abbrev pub shortNumber : Option ℕ → ℕ
+shortNumber none = 0
+shortNumber (some p) = 1000 + p
+
+abbrev pub shortCount : (ℕ → ℕ) → Option ℕ → ℕ
+shortCount missing none = 0
+shortCount missing (some p) = missing p
+
+-- The verdict v tells the first short place.
+abbrev pub VerdictOf : (ℕ → ℕ) → ℕ → Verdict → Type 0
+VerdictOf missing n v =
+    (verdictNumber v ≡ shortNumber (firstShort missing n)) × (verdictCount v ≡ shortCount missing (firstShort missing n))
+
+-- The values of an answer: the total missing, the number of short places, and the two that the verdict says.
+pub record PlanValues : Type 0 where
+  pub total : ℕ
+  pub short : ℕ
+  pub number : ℕ
+  pub count : ℕ
+
+-- those that are told
+abbrev pub valuesIn : Totals → PlanValues
+valuesIn t =
+    record { total = t .total; short = t .short; number = verdictNumber (t .verdict); count = verdictCount (t .verdict) }
+
+-- those that the counts of n places come to
+unfoldable pub valuesOf : (ℕ → ℕ) → ℕ → PlanValues
+valuesOf missing n =
+    record {
+      total = totalMissing missing n;
+      short = shortPlaces missing n;
+      number = shortNumber (firstShort missing n);
+      count = shortCount missing (firstShort missing n);
+    }
 
 -- the missing counts that stand in a row
 abbrev pub countAt : List ℕ → ℕ → ℕ

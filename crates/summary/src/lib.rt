@@ -4,7 +4,7 @@ ghost use mathlib.Core.Path.{_≡_};
 ghost use lib.ListN.{length};
 ghost use Rattle.ids.specs.Lent.{was};
 ghost use Rattle.ids.specs.Limits.{mostPlaces};
-ghost use Rattle.summary.specs.Summary.{totalMissing, shortPlaces, verdictOf, verdictNumber, totalsIn, countAt, MissingCounts};
+ghost use Rattle.summary.specs.Summary.{totalMissing, shortPlaces, VerdictOf, verdictNumber, valuesIn, valuesOf, countAt, MissingCounts};
 use ids::Place;
 
 // A plan runs, or is short at a first place by a missing count.
@@ -46,7 +46,7 @@ fn short_places(row: &[u32], n: usize) -> u32
 
 fn verdict_of(row: &[u32], n: usize) -> Verdict
     requires { ⌜ n ≤ length (now row) ⌝ }
-    ensures { λ r. ⌜ r ≡ verdictOf (countAt (was row)) n ⌝ }
+    ensures { λ r. ⌜ VerdictOf (countAt (was row)) n r ⌝ }
 {
     for p in 0..n {
         if row[p] > 0 {
@@ -59,7 +59,7 @@ fn verdict_of(row: &[u32], n: usize) -> Verdict
 // What the counts of the first n places come to.
 pub fn sum_up(row: &[u32], n: usize) -> Totals
     requires { ⌜ MissingCounts (now row) n × (n ≤ length (now row)) ⌝ }
-    ensures { λ r. ⌜ r ≡ totalsIn (countAt (was row)) n ⌝ }
+    ensures { λ r. ⌜ valuesIn r ≡ valuesOf (countAt (was row)) n ⌝ }
 {
     let total = total_missing(row, n);
     let short = short_places(row, n);

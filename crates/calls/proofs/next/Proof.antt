@@ -9,10 +9,19 @@ returns : tie.Need-returns
 returns c = next-lower _ _ _ (c .if1 .taken)
 
 returns-2 : tie.Need-returns-2
-returns-2 c = next-here _ _ _ (c .before .before .if1 .left) (c .before .if2 .taken) _ refl refl
+returns-2 c =
+    let found : tie.Then2 = search in
+    let clear : tie.Else1 = search in
+    let made : tie.After-plain-fault = search in
+    next-here _ _ _ (clear .if1 .left) _ refl (found .if2 .taken) (made .plain-fault .ensures)
 
 returns-3 : tie.Need-returns-3
-returns-3 c = next-not _ _ _ (c .before .if1 .left) (c .if2 .left)
+returns-3 c =
+    let not : tie.Else2 = search in
+    let clear : tie.Else1 = search in
+    let made : tie.After-no-fault = search in
+    next-not _ _ _ (clear .if1 .left) _ refl (not .if2 .left) (made .no-fault .ensures)
 
 pub next-spec : {M : Type 1} → statement M
-next-spec = tie.close (tie.spec returns returns-2 returns-3)
+next-spec =
+    tie.close (tie.spec returns (λ c κs. search needs) returns-2 (λ c κs. search needs) returns-3)

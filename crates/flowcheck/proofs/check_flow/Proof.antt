@@ -17,7 +17,7 @@ returns c =
     let placed : tie.After-with-place = search in
     let found : tie.After-with-row = search in
     let is = examined .examine .ensures in
-    fault-told _ _ _ (is .0) (is .1 .1) _ (omega arith) (placed .with-place .ensures) _ (omega arith) (found .with-row .ensures) (c .if1 .taken)
+    fault-told _ _ _ (is .0) (is .1 .1) _ (omega arith) (placed .with-place .ensures) _ (omega arith) (found .with-row .ensures) (search) _ (omega arith) (omega arith)
 
 is-valid-requires : tie.Need-is-valid-requires
 is-valid-requires c κs =

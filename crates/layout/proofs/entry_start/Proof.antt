@@ -7,7 +7,7 @@ use Rattle.layout.proofs.entry_start.Statement.{statement}
 use Rattle.layout.proofs.entry_start.Tie as tie
 
 returns : tie.Need-returns
-returns c = c .get32 .ensures .0 ∙ start-is _ _ _ (omega arith)
+returns c = (c .get32 .ensures .0 ∙ start-is _ _ _ (omega arith), omega arith)
 
 pub entry-start-spec : {M : Type 1} → statement M
 entry-start-spec = tie.close (tie.spec (λ c. search needs) (λ c κs. search needs) (λ c. search needs) returns)

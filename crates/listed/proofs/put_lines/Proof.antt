@@ -18,7 +18,7 @@ sum c = search
 
 -- what the counts come to
 all : (c : tie.After-sum-up) → Told (now (start c .args .s)) (c .sum-up .result)
-all c = told _ (start c .pre .0) _ (start c .pre .1 .0) _ _ (counted c .count-missing .ensures .0) _ (c .sum-up .ensures)
+all c = told _ (start c .pre .0) _ (start c .pre .1 .0) _ _ (counted c .count-missing .ensures .0) (c .sum-up .result) (c .sum-up .ensures)
 
 count-missing-requires : tie.Need-count-missing-requires
 count-missing-requires c κs = let begun : tie.Start = search in (begun .pre .0, (begun .pre .1 .0, (begun .pre .1 .1 .0, omega arith)))
@@ -43,7 +43,7 @@ put-verdict-requires c κs =
     let put : tie.After-put-counts = search in
     let pre = start summed .pre in
     let text = put .put-counts .ensures in
-    (few-places _ (pre .0) _ (all summed), (omega (arith, pre .1 .0 .events, pre .0 .laid .limited .events), omega (arith, text .0 .size, text .1, pre .1 .1 .1)))
+    (few-places _ (pre .0) (summed .sum-up .result) (all summed), (omega (arith, pre .1 .0 .events, pre .0 .laid .limited .events), omega (arith, text .0 .size, text .1, pre .1 .1 .1)))
 
 returns : tie.Need-returns
 returns c =
@@ -51,7 +51,7 @@ returns c =
     let last : tie.After-put-verdict = search in
     let summed = sum put in
     let pre = start summed .pre in
-    rw (lines-are _ (pre .0) _ (pre .1 .0) _ _ (counted summed .count-missing .ensures .1) (all summed .verdict))
+    rw (lines-are _ (pre .0) _ (pre .1 .0) _ (summed .sum-up .result .verdict) (counted summed .count-missing .ensures .1) (all summed .verdict))
     (put .put-counts .ensures .0 then last .put-verdict .ensures)
 
 pub put-lines-spec : {M : Type 1} → statement M

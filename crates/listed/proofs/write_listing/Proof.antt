@@ -1,9 +1,10 @@
 -- `listed::write_listing`: the text is put into a row of its own, and copied from there if it fits.
 use native.Mathlib.Omega.{arith}
-use mathlib.Core.Path.{_≡_, sym}
+use mathlib.Core.Path.{_≡_, sym, ap}
 use borrow.Author.Needs.{needs}
 use lib.ListN.{length, take}
 use lib.Seq.{length-take-le}
+use Rattle.sheet.specs.declared.Fault.{Fault}
 use Rattle.listed.proofs.Copying.{too-short, copied}
 use Rattle.listed.proofs.write_listing.Statement.{statement}
 use Rattle.listed.proofs.write_listing.Tie as tie
@@ -22,7 +23,11 @@ put-word-requires : tie.Need-put-word-requires
 put-word-requires c κs = omega (arith, part c)
 
 returns : tie.Need-returns
-returns c = let text : tie.After-put-listing = search in too-short _ _ _ _ _ (text .put-listing .ensures) (omega arith)
+returns c =
+    let text : tie.After-put-listing = search in
+    let made : tie.After-plain-fault = search in
+    let is = made .plain-fault .ensures in
+    too-short _ _ _ _ _ (text .put-listing .ensures) (omega arith) _ (omega (arith, ap (λ (f : Fault). f .number) is)) (ap (λ (f : Fault). f .item) is)
 
 returns-2 : tie.Need-returns-2
 returns-2 c =
@@ -35,6 +40,7 @@ write-listing-spec =
     tie.close
     (tie.spec
     (λ c. search needs)
+    (λ c κs. search needs)
     (λ c κs. search needs)
     returns
     (λ c. search needs)

@@ -1,10 +1,11 @@
 -- `place_judgement::judge_place` meets its contract: the chain tells the call's fault; without one the missing count tells the case.
 use native.Mathlib.Omega.{arith}
-use mathlib.Core.Path.{sym, subst, _∙_}
+use mathlib.Core.Path.{sym, ap, subst, _∙_}
 use denote.Ref.{now}
 use borrow.Author.Needs.{needs}
 use Rattle.calls.specs.Refusal.{FaultTold, sheet-told}
 use Rattle.layout.specs.Layout.{WithinLimits}
+use Rattle.sheet.specs.declared.Fault.{Fault}
 use Rattle.place_judgement.specs.Judgement.{judgeFault}
 use Rattle.place_judgement.proofs.Answers.{fault-told, refused, taken, known, laid, place, room, runs-told, short-told}
 use Rattle.place_judgement.proofs.judge_place.Statement.{statement}
@@ -30,7 +31,7 @@ add-with-row c =
     omega (arith, few .pairs, few .events)
 
 returns : tie.Need-returns
-returns c = refused _ _ _ _ _ (told (search)) (search)
+returns c = refused _ _ _ _ _ (told (search)) (search) _ (omega arith) (omega arith)
 
 judge-known-requires : tie.Need-judge-known-requires
 judge-known-requires c κs =
@@ -38,7 +39,7 @@ judge-known-requires c κs =
     let else : tie.Else1 = search in
     let none = else .if1 .left in
     let seen : tie.After-examine = search in
-    let order = seen .examine .ensures .1 .1 (seen .examine .ensures .0 ∙ taken _ _ _ _ _ e none) .1 in
+    let order = seen .examine .ensures .1 .1 (ap (λ (f : Fault). f .number) (seen .examine .ensures .0) ∙ taken _ _ _ _ _ e none) .1 in
     (known _ _ _ _ _ e none, (laid _ _ _ _ _ e none, (place _ _ _ _ _ e none, (order, room _ _ _ _ _ e none))))
 
 returns-2 : tie.Need-returns-2
@@ -46,14 +47,14 @@ returns-2 c =
     let known : tie.After-judge-known = search in
     let is = known .judge-known .ensures in
     let else : tie.Else1 = search in
-    runs-told _ _ _ _ _ (told (search)) (else .if1 .left) _ _ _ (is .0) (is .1 .0) (is .1 .1) (search)
+    runs-told _ _ _ _ _ (told (search)) (else .if1 .left) _ _ (is .1 .0) (is .1 .1) _ (is .0) (search)
 
 returns-3 : tie.Need-returns-3
 returns-3 c =
     let known : tie.After-judge-known = search in
     let is = known .judge-known .ensures in
     let else : tie.Else1 = search in
-    short-told _ _ _ _ _ (told (search)) (else .if1 .left) _ _ _ (is .0) (is .1 .0) (is .1 .1) (search)
+    short-told _ _ _ _ _ (told (search)) (else .if1 .left) _ _ (is .1 .0) (is .1 .1) _ (is .0) (search)
 
 pub judge-place-spec : {M : Type 1} → statement M
 judge-place-spec =

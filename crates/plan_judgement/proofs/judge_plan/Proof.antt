@@ -1,9 +1,11 @@
 -- `plan_judgement::judge_plan` meets its contract: the chain tells the call's fault; without one the counts stand in the row, and the totals are
 -- what these come to.
-use mathlib.Core.Path.{_∙_}
+use native.Mathlib.Omega.{arith}
+use mathlib.Core.Path.{ap, _∙_}
 use denote.Ref.{now}
 use borrow.Author.Needs.{needs}
 use Rattle.calls.specs.Refusal.{FaultTold, sheet-told}
+use Rattle.sheet.specs.declared.Fault.{Fault}
 use Rattle.plan_judgement.specs.Judgement.{planFault}
 use Rattle.plan_judgement.proofs.Answers.{fault-told, refused, taken, known, laid, long, counts, in-row, judged}
 use Rattle.plan_judgement.proofs.judge_plan.Statement.{statement}
@@ -19,7 +21,7 @@ told c =
     fault-told _ _ _ _ (sheet-told _ _ (seen .examine .ensures .0) (seen .examine .ensures .1 .1)) (c .with-row .ensures)
 
 returns : tie.Need-returns
-returns c = refused _ _ _ (told (search)) (search)
+returns c = refused _ _ _ (told (search)) (search) _ (omega arith) (omega arith)
 
 count-missing-requires : tie.Need-count-missing-requires
 count-missing-requires c κs =
@@ -27,7 +29,7 @@ count-missing-requires c κs =
     let else : tie.Else1 = search in
     let none = else .if1 .left in
     let seen : tie.After-examine = search in
-    let order = seen .examine .ensures .1 .1 (seen .examine .ensures .0 ∙ taken _ _ _ e none) .1 in
+    let order = seen .examine .ensures .1 .1 (ap (λ (f : Fault). f .number) (seen .examine .ensures .0) ∙ taken _ _ _ e none) .1 in
     (known _ _ _ e none, (laid _ _ _ e none, (order .ahead, long _ _ _ e none)))
 
 sum-up-requires : tie.Need-sum-up-requires
@@ -42,7 +44,7 @@ returns-2 c =
     let e = told (search) in
     let else : tie.Else1 = search in
     let counted : tie.After-count-missing = search in
-    judged _ _ _ e (else .if1 .left) _ (counted .count-missing .ensures .0) _ (c .sum-up .ensures)
+    judged _ _ _ e (else .if1 .left) _ (counted .count-missing .ensures .0) (c .sum-up .result) (c .sum-up .ensures)
 
 pub judge-plan-spec : {M : Type 1} → statement M
 judge-plan-spec =

@@ -34,7 +34,7 @@ use denote.Triple.Spec.{Meets, tripleOf}
 use denote.Triple.Statement.{Contract, Triple}
 use denote.Triple.Table.{entered, cited}
 use Rattle.sheet.specs.Table.{tableLength}
-use Rattle.layout.specs.Layout.{LayoutOf}
+use Rattle.layout.specs.Layout.{LayoutOf, FourBytes}
 use Rattle.layout.specs.declared.Layout.{Layout}
 use Rattle.layout.proofs.Layout as N
 use Rattle.layout.proofs.Layout.Laws as N′
@@ -96,8 +96,8 @@ module _ {M : Type 1} (𝓤 : URA M) (H : Heap 𝓤) (A : Atoms 𝓤) (W : Given
         (shr-slice-copy 𝓤 H A W (named 0) κ u8 .twice s (bytes s ∷ [])) $ split ! $
         enter ! (𝓣 .C) (𝓣 .Λ) code.function (bytes s ∷ []) _ $ alloc1 ! (λ l₀. alloc1 ! (λ l₁. alloc1 ! (λ l₂. alloc0 ! $ params1 ! $ pass1 ! (init ! 2 refl typed) $ pass0 ! $
         -- [the locals, the last first; what the sheet owns, twice; the token]
-        move ! (6 ∷ 8 ∷ []) $ calls 𝓤 H A W callee.ended (callee.clauses 𝓤 H A mem run) (((κ, tt), (q, tt), tt, (s, tt), (bytes s ∷ [], tt)), tt) (LayoutOf (now s)) (λ c e. id⊢ 𝓤 _)
-        (fmOf 𝓤 H (W .laws) 𝓣) met refl (id⊢ 𝓤 (emp 𝓤)) (one-fact 𝓤 long) (and-then ! (load ! (from ! (stop !)) (look ! 3 refl)) (no-more !)) (λ u c are is-c.
+        move ! (6 ∷ 8 ∷ []) $ calls 𝓤 H A W callee.ended (callee.clauses 𝓤 H A mem run) (((κ, tt), (q, tt), tt, (s, tt), (bytes s ∷ [], tt)), tt)
+        (λ c. LayoutOf (now s) c × FourBytes c) (λ c e. id⊢ 𝓤 _) (fmOf 𝓤 H (W .laws) 𝓣) met refl (id⊢ 𝓤 (emp 𝓤)) (one-fact 𝓤 long) (and-then ! (load ! (from ! (stop !)) (look ! 3 refl)) (no-more !)) (λ u c are is-c.
         let is-u = LL.tells N.the-type N′.the-laws c (u ∷ []) is-c in
         let wt = LL.lawful N.the-type N′.the-laws 𝓤 H A W .typed c _ (subst (Is N.the-row c) is-u is-c) .0 .1 in
         -- [the token; the locals, the last first; what the sheet owns]
@@ -108,7 +108,7 @@ module _ {M : Type 1} (𝓤 : URA M) (H : Heap 𝓤) (A : Atoms 𝓤) (W : Given
         move ! (5 ∷ 6 ∷ []) $ free1 ! $ move ! (3 ∷ 4 ∷ []) $ free1 ! $ move ! (1 ∷ 2 ∷ []) $ free1 ! $ free0 ! $
         move ! (1 ∷ []) $ use1 W (‵ (T.the-row (namedLft 1 0 tt (κ, tt)) .own (made s c) (T′.lowered (made s c) ∷ []))) (shut κ s c (subst (Is N.the-row c) is-u is-c)) $
         by ! (ends 𝓤 H A W own.ended (own.clauses 𝓤 H A mem run) (((κ, tt), (q, tt), tt, (s, tt), (bytes s ∷ [], tt)), tt) (T′.lowered (made s c)) (made s c) (tt, tt)
-        (one-fact 𝓤 (made-is s c are)))))))
+        (one-fact 𝓤 (made-is s c (are .0))))))))
 
     meets : Meets 𝓤 H A own.signature (WpFn 𝓤 H (𝓣 .C) (𝓣 .Λ) code.function) (own.spec 𝓤 H A mem run)
     meets =

@@ -4,7 +4,8 @@ use mathlib.Core.Path.{_≡_, ap, _∙_}
 use native.Mathlib.Omega.{arith}
 use denote.Ref.{now}
 use lib.ListN.{length-replicate}
-use Rattle.reedanchor.specs.Till.{answerNumber, tillAnswer}
+use Rattle.reedanchor.specs.Till.{numberSaid, tillAnswer}
+use Rattle.plan_judgement.specs.Judgement.{says}
 use Rattle.reedanchor.specs.Laws.{till-fits}
 use Rattle.reedanchor.proofs.Told.{till-is}
 use borrow.Author.Needs.{needs}
@@ -14,8 +15,8 @@ use Rattle.reedanchor.proofs.reedanchor_judge.Tie as tie
 abbrev entry : tie.After-judge-plan → tie.Start
 entry c = search
 
-told : (c : tie.After-judge-plan) → answerNumber (c .judge-plan .result) ≡ tillAnswer (now (entry c .args .sheet))
-told c = ap answerNumber (c .judge-plan .ensures .0) ∙ till-is _ _ (simp length-replicate (omega arith))
+told : (c : tie.After-judge-plan) → numberSaid (says (c .judge-plan .result)) ≡ tillAnswer (now (entry c .args .sheet))
+told c = ap numberSaid (c .judge-plan .ensures .0) ∙ till-is _ _ (simp length-replicate (omega arith))
 
 answer-number-requires : tie.Need-answer-number-requires
 answer-number-requires c κs = omega (arith, told (search), till-fits (now (entry (search) .args .sheet)))

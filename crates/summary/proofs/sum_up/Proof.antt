@@ -1,13 +1,16 @@
 -- `sum_up` rests on what its three calls say of the counts in the row: the total, the number of short places and the verdict.
 use borrow.Author.Needs.{needs}
+use Rattle.summary.specs.Summary.{valuesOf}
 use Rattle.summary.proofs.sum_up.Statement.{statement}
 use Rattle.summary.proofs.sum_up.Tie as tie
 
 returns : tie.Need-returns
+unfolding valuesOf
 returns c =
     let totalled : tie.After-total-missing = search in
     let counted : tie.After-short-places = search in
-    λ i. record { total = totalled .total-missing .ensures i; short = counted .short-places .ensures i; verdict = c .verdict-of .ensures i }
+    let told = c .verdict-of .ensures in
+    λ i. record { total = totalled .total-missing .ensures i; short = counted .short-places .ensures i; number = told .0 i; count = told .1 i }
 
 pub sum-up-spec : {M : Type 1} → statement M
 sum-up-spec =
