@@ -97,7 +97,8 @@ module _ {M : Type 1} (𝓤 : URA M) (H : Heap 𝓤) (A : Atoms 𝓤) (W : Given
         enter ! (𝓣 .C) (𝓣 .Λ) code.function (bytes s ∷ []) _ $ alloc1 ! (λ l₀. alloc1 ! (λ l₁. alloc1 ! (λ l₂. alloc0 ! $ params1 ! $ pass1 ! (init ! 2 refl typed) $ pass0 ! $
         -- [the locals, the last first; what the sheet owns, twice; the token]
         move ! (6 ∷ 8 ∷ []) $ calls 𝓤 H A W callee.ended (callee.clauses 𝓤 H A mem run) (((κ, tt), (q, tt), tt, (s, tt), (bytes s ∷ [], tt)), tt)
-        (λ c. LayoutOf (now s) c × FourBytes c) (λ c e. id⊢ 𝓤 _) (fmOf 𝓤 H (W .laws) 𝓣) met refl (id⊢ 𝓤 (emp 𝓤)) (one-fact 𝓤 long) (and-then ! (load ! (from ! (stop !)) (look ! 3 refl)) (no-more !)) (λ u c are is-c.
+        (λ c. LayoutOf (now s) c × FourBytes c) (λ c e. id⊢ 𝓤 _)
+        (fmOf 𝓤 H (W .laws) 𝓣) met refl (id⊢ 𝓤 (emp 𝓤)) (one-fact 𝓤 long) (and-then ! (load ! (from ! (stop !)) (look ! 3 refl)) (no-more !)) (λ u c are is-c.
         let is-u = LL.tells N.the-type N′.the-laws c (u ∷ []) is-c in
         let wt = LL.lawful N.the-type N′.the-laws 𝓤 H A W .typed c _ (subst (Is N.the-row c) is-u is-c) .0 .1 in
         -- [the token; the locals, the last first; what the sheet owns]
