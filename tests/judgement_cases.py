@@ -1,10 +1,11 @@
 #!/usr/bin/env python3
-"""Writes crates/judgements_test/stdin and stdout: document 01's examples and the faults of a call, with what must be printed.
+"""Writes crates/judgements_test/stdin and stdout: document 01's examples and more of the kind, and the faults of a call, with what must be
+printed.
 
 usage: judgement_cases.py [DIRECTORY]
 
-What is expected comes from the documents' tables and rules, not from any judge. A refused call's fault is typed in as its number and its
-item. Where a plan runs at the place, the flow row isn't printed, since the choice among valid flows is free; that the flow check
+What is expected comes from the documents' tables and rules, by hand, not from any judge. A refused call's fault is typed in as its number
+and its item. Where a plan runs at the place, the flow row isn't printed, since the choice among valid flows is free; that the flow check
 takes it is.
 """
 import os
@@ -30,28 +31,25 @@ def lent(needed, length, untouched=UNTOUCHED):
     return list(needed) + [untouched] * (length - len(needed))
 
 
-def judged(plan, place, counts, done):
-    """A case with two entries more in each row than are needed, and its lines: the missing counts of all places, and the done set, None
-    where the plan runs at the place."""
+def judged(plan, place, counts, spare, done):
+    """A case with two entries more in each row than are needed, and its lines: the missing counts of all places, the spare count of this
+    one, and the done set, None where the plan runs at the place."""
     needed = len(plan.pairs) + plan.events
     given = case(plan.sheet(), place, len(counts) + 2, needed + 2, plan.events + 2, shown=done is not None)
     short = [p for p, count in enumerate(counts) if count > 0]
     verdict = ["short", short[0], counts[short[0]]] if short else ["runs"]
     marks = lent([1 if done and v in done else 0 for v in range(plan.events)], plan.events + 2, UNTOUCHED_MARK)
-    if done is None:
-        answer = ["runs", "marks", *marks]
-    else:
-        answer = ["short", counts[place], "marks", *marks, "flow", *lent([0] * needed, needed + 2)]
+    flow = [] if done is None else ["flow", *lent([0] * needed, needed + 2)]
     lines = line("plan", sum(counts), len(short), *verdict, "counts", *lent(counts, len(counts) + 2))
-    lines += line("place", *answer) + line("check", "valid" if done is None else "invalid")
+    lines += line("place", "spare", spare, "marks", *marks, *flow) + line("check", "valid" if done is None else "invalid")
     return given, lines
 
 
 def examples():
-    for opening, events, pairs, missing, done in plans.TABLE:
-        yield judged(plans.one_place(opening, events, pairs), 0, [missing], done)
-    for place, done in ((0, []), (1, None), (2, None)):
-        yield judged(plans.LISTED, place, [1, 0, 0], done)
+    for opening, events, pairs, missing, spare, done in plans.TABLE + plans.MORE:
+        yield judged(plans.one_place(opening, events, pairs), 0, [missing], spare, done)
+    for place, spare, done in ((0, -1, []), (1, 0, None), (2, 0, None)):
+        yield judged(plans.LISTED, place, [1, 0, 0], spare, done)
 
 
 def refused_plan(fault, counts):
@@ -87,7 +85,7 @@ def faults_of_a_call():
     # too few marks alone: the flow row of greatest numbers is no flow
     yield case(sheet, 1, 3, 4, 2), listed(3) + refused_place(short_row, 4, 2) + line("check", "invalid")
     # just enough of everything
-    place_line = line("place", "short", 1, "marks", 0, 0, 0, "flow", 0, 0, 0, 0)
+    place_line = line("place", "spare", -1, "marks", 0, 0, 0, "flow", 0, 0, 0, 0)
     yield case(sheet, 0, 3, 4, 3), listed(3) + place_line + line("check", "invalid")
 
 

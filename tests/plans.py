@@ -8,30 +8,46 @@ def one_place(opening, events, pairs):
     return Plan((opening,), [((takes,), (gives,)) for takes, gives in kinds], [kinds.index(event) for event in events], pairs)
 
 
-# Document 01's table of one desk's examples: opening count, events as takes and gives, order, missing count, done set.
+# Document 01's table of one desk's examples: opening count, events as takes and gives, order, missing count, done set. The spare count between
+# these two is worked out by hand, from what the done sets need.
 TABLE = (
-    (0, (), (), 0, None),
-    (1, ((1, 0), (1, 0)), (), 1, []),
-    (2, ((1, 0), (1, 0)), (), 0, None),
-    (1, ((1, 1), (1, 1)), (), 1, []),
-    (1, ((1, 1), (1, 1)), ((0, 1),), 0, None),
-    (0, ((0, 1), (0, 0), (1, 0)), ((0, 1), (1, 2)), 0, None),
-    (1, ((0, 1), (1, 0), (1, 0)), ((0, 1),), 0, None),
-    (0, ((0, 0), (1, 0), (0, 0)), ((0, 1),), 1, [0]),
-    (3, ((2, 2), (2, 2)), (), 1, []),
-    (3, ((2, 2), (2, 2)), ((0, 1),), 0, None),
-    (0, ((1, 1),), (), 1, []),
-    (0, ((0, 1), (1, 0)), (), 1, []),
-    (0, ((1000, 0),) * 256, (), 256000, []),
+    (0, (), (), 0, 0, None),
+    (1, ((1, 0), (1, 0)), (), 1, -1, []),
+    (2, ((1, 0), (1, 0)), (), 0, 0, None),
+    (1, ((1, 1), (1, 1)), (), 1, -1, []),
+    (1, ((1, 1), (1, 1)), ((0, 1),), 0, 0, None),
+    (0, ((0, 1), (0, 0), (1, 0)), ((0, 1), (1, 2)), 0, 0, None),
+    (1, ((0, 1), (1, 0), (1, 0)), ((0, 1),), 0, 0, None),
+    (0, ((0, 0), (1, 0), (0, 0)), ((0, 1),), 1, -1, [0]),
+    (3, ((2, 2), (2, 2)), (), 1, -1, []),
+    (3, ((2, 2), (2, 2)), ((0, 1),), 0, 1, None),
+    (0, ((1, 1),), (), 1, -1, []),
+    (0, ((0, 1), (1, 0)), (), 1, -1, []),
+    (0, ((1000, 0),) * 256, (), 256000, -256000, []),
+)
+
+# More of the kind, by hand: both ends of what a spare count may be, both sides of 0, and needs that aren't the empty set's.
+MORE = (
+    (1000000, (), (), 0, 1000000, None),
+    (1000000, ((0, 1000),) * 256, (), 0, 1000000, None),  # nothing is taken, and what is given doesn't count
+    (1000000, ((1000, 0),) * 256, (), 0, 744000, None),
+    (256001, ((1000, 0),) * 256, (), 0, 1, None),
+    (256000, ((1000, 0),) * 256, (), 0, 0, None),
+    (255999, ((1000, 0),) * 256, (), 1, -1, []),
+    (5, ((1, 1), (1, 1)), ((0, 1),), 0, 4, None),  # one token serves the chain
+    (5, ((1, 1), (1, 1)), (), 0, 3, None),
+    (9, ((2, 0), (0, 0), (3, 1)), ((0, 1), (1, 2)), 0, 4, None),  # {0, 1} needs 5, the empty set 2
+    (4, ((2, 0), (0, 0), (3, 1)), ((0, 1), (1, 2)), 1, -1, [0, 1]),
+    (7, ((2, 0), (0, 3), (3, 0)), ((0, 1), (1, 2)), 0, 5, None),  # event 2 takes what event 1 gives
 )
 
 # The sheet of 78 bytes that document 01 lists, and its listing.
 LISTED = Plan((1, 0, 0), (((1, 0, 0), (0, 1, 0)), ((0, 1, 0), (0, 0, 1))), (0, 0, 1), ((0, 2),))
 LISTING = """\
 plan events 3 pairs 1 free 2
-place 0 open 1 end -1 missing 1
-place 1 open 0 end 1 missing 0
-place 2 open 0 end 1 missing 0
+place 0 open 1 end -1 spare -1
+place 1 open 0 end 1 spare 0
+place 2 open 0 end 1 spare 0
 short 1 total 1
 first 0 done none
 """
@@ -137,11 +153,12 @@ def random_pairs(draw, n):
 
 
 def random_plan(draw, most_events=8, most_places=4):
-    """A plan of a few events. The opening counts lie around the least ones with which it runs, to either side."""
+    """A plan of a few events. The opening counts lie around the least ones with which it runs, to either side, some of them far away."""
     n, places, kinds = draw.randrange(most_events + 1), draw.randrange(1, most_places + 1), draw.randrange(1, 6)
     weight = draw.choice((lambda: draw.randrange(2), lambda: draw.randrange(4), lambda: draw.choice((0, 0, 1, 3, 999, 1000))))
     transitions = [([weight() for _ in range(places)], [weight() for _ in range(places)]) for _ in range(kinds)]
     plan = Plan([0] * places, transitions, [draw.randrange(kinds) for _ in range(n)], random_pairs(draw, n))
     for p in range(places):
-        plan.opening[p] = max(0, plan.by_greatest_flow(p)[0] + draw.choice((-3, -2, -1, -1, 0, 0, 0, 1, 2)))
+        far = draw.randrange(3, draw.choice((10, 1000, 1000000)))
+        plan.opening[p] = min(1000000, max(0, plan.by_least_cut(p)[0] + draw.choice((-3, -2, -1, -1, 0, 0, 0, 1, 2, far, -far))))
     return plan

@@ -1,14 +1,14 @@
-"""A judge of sheets that shares nothing with the code under test: the definitions of document 01, and the faults with document 02's A2, read
-off literally.
+"""A judge of sheets that shares nothing with the code under test: the definitions of document 01, the faults with document 02's A2 and the
+spare count of its A3, read off literally.
 
-It walks all done sets of a plan, so it is for plans of a few events. `by_greatest_flow` is a second way to a place's missing
-count and smallest done set, for plans of any size; tests/random_plans holds the two against each other. What it finds of a larger plan
+It walks all done sets of a plan, so it is for plans of a few events. `by_greatest_flow` is a second way to a place's spare and missing
+counts and smallest done set, for plans of any size; tests/random_plans holds the two against each other. What it finds of a larger plan
 counts only where `objection` has none: a done set and rows of flow, each held to the definitions, show the answer.
 """
 import struct
 from collections import deque
 from functools import cached_property
-from typing import NamedTuple
+from typing import NamedTuple, Optional
 
 LIMITS = (64, 64, 256, 1024)  # places, transitions, events, pairs
 MOST_BYTES = 21280
@@ -22,6 +22,14 @@ class Fault(NamedTuple):
 
 
 NO_FAULT = Fault(0)
+
+
+class Answer(NamedTuple):
+    """Of a place: the opening count less the least one with which the plan runs there, the missing count, and where that is above 0 the done
+    set contained in all others of the greatest lack, else None."""
+    spare: int
+    missing: int
+    done: Optional[list]
 
 
 def item_lengths(places):
@@ -158,22 +166,24 @@ class Plan:
     def lack(self, place, inside, front):
         return sum(self.takes(v, place) for v in front) - self.tokens(place, inside)
 
-    def lacks(self, place):
-        return {done: self.lack(place, inside, front) for done, inside, front in self.done_sets}
+    def need(self, place, inside, front):
+        """Takes of a done set's members and of its front, less gives of its members: the least opening count with which it lacks nothing."""
+        return sum(self.takes(v, place) for v in inside + front) - sum(self.gives(v, place) for v in inside)
 
     def by_done_sets(self, place):
-        """The missing count and, where it is above 0, the done set contained in all others of that lack; else None."""
-        lacks = self.lacks(place)
+        """The spare count by what done sets need. By what they lack, whatever the spare count: the missing count and the smallest done set."""
+        spare = self.opening[place] - max(self.need(place, inside, front) for _, inside, front in self.done_sets)
+        lacks = {done: self.lack(place, inside, front) for done, inside, front in self.done_sets}
         most = max(lacks.values())
         if most <= 0:
-            return 0, None
+            return Answer(spare, 0, None)
         greatest = [done for done, lack in lacks.items() if lack == most]
         smallest = greatest[0]
         for done in greatest:
             smallest &= done
         if smallest not in greatest:
             raise AssertionError("no done set of the greatest lack is contained in all the others")
-        return most, [v for v in range(self.events) if smallest >> v & 1]
+        return Answer(spare, most, [v for v in range(self.events) if smallest >> v & 1])
 
     def end(self, place):
         return self.tokens(place, range(self.events))
@@ -192,24 +202,29 @@ class Plan:
         drawn = {(a, b): network.add(b, self.events + a, None) for a, b in pairs}
         return network, taken, drawn
 
-    def by_greatest_flow(self, place):
-        """The missing count and the smallest done set, by the least cut that has the least on the source's side."""
+    def by_least_cut(self, place):
+        """The least opening count with which the plan runs at a place, and the smallest done set that needs it, by the least cut that has the
+        least on the source's side."""
         network, _, _ = self.network(place, self.pairs)
         total = sum(self.takes(v, place) for v in range(self.events))
-        most = total - network.greatest_flow(2 * self.events, 2 * self.events + 1) - self.opening[place]
-        if most <= 0:
-            return 0, None
+        least = total - network.greatest_flow(2 * self.events, 2 * self.events + 1)
         reached = network.levels(2 * self.events)
-        return most, [v for v in range(self.events) if reached[self.events + v] is not None]
+        return least, [v for v in range(self.events) if reached[self.events + v] is not None]
+
+    def by_greatest_flow(self, place):
+        """What `by_done_sets` finds, by a least cut."""
+        least, done = self.by_least_cut(place)
+        spare = self.opening[place] - least
+        return Answer(spare, -spare, done) if spare < 0 else Answer(spare, 0, None)
 
     def judge(self, place):
         if self.events <= WALKED_EVENTS:
             return self.by_done_sets(place)
-        missing, done = self.by_greatest_flow(place)
-        against = self.objection(place, missing, done)
+        answer = self.by_greatest_flow(place)
+        against = self.objection(place, answer)
         if against:
-            raise AssertionError("place %d: the greatest flow says %d missing after %s: %s" % (place, missing, done, against))
-        return missing, done
+            raise AssertionError("place %d: the greatest flow says %s: %s" % (place, answer, against))
+        return answer
 
     # what shows an answer, whoever found it
 
@@ -229,31 +244,39 @@ class Plan:
         plan.predecessors, plan.skeleton = self.predecessors, self.skeleton
         return plan
 
-    def overrun_found(self, place):
-        """The overrun of some flow otherwise valid, which no lack of a done set passes."""
+    def flow_found(self, place):
+        """A flow otherwise valid. No done set needs more than its shares' sum, so none lacks more than it overruns."""
         row = self.flow_row(place)
         if not self.is_otherwise_valid(place, row):
             raise AssertionError("place %d: the row %s isn't a flow otherwise valid" % (place, row))
-        return self.overrun(place, row)
+        return row
 
-    def objection(self, place, missing, done):
-        """What speaks against an answer; None where it is shown to be right. An upper bound: no done set lacks more than a flow otherwise
-        valid overruns. A lower one: the lack of the done set handed over. And it is within all others of that lack if each of its last events
-        is in all of them: if that event gave so much that no done set with it lacks, no other would lack as many either."""
-        if self.overrun_found(place) > missing:
-            return "no flow has so small an overrun"
-        if missing == 0:
-            return None if done is None else "a done set where nothing is missing"
-        inside = sum(1 << v for v in done or ())
-        if done is None or any(self.predecessors[v] & ~inside for v in done):
+    def objection(self, place, answer):
+        """What speaks against an answer; None where it is shown to be right. An upper bound: no done set needs more than the shares of a flow
+        otherwise valid sum to. A lower one: need and lack of the done set handed over, or where nothing is missing, of one that a least cut
+        finds. And a done set handed over is within all others of that lack if each of its last events is in all of them: if that event gave so
+        much that no done set with it lacks, no other would lack as many either."""
+        spare, missing, done = answer
+        least = self.opening[place] - spare
+        if self.shares_sum(self.flow_found(place)) > least:
+            return "no flow has shares of so small a sum"
+        if (done is None) != (missing == 0):
+            return "a done set belongs to what is missing, and to nothing else"
+        shown = self.by_least_cut(place)[1] if done is None else done
+        inside = sum(1 << v for v in shown)
+        if any(self.predecessors[v] & ~inside for v in shown):
             return "that is no done set"
         front = [v for v in range(self.events) if not inside >> v & 1 and self.predecessors[v] & ~inside == 0]
-        if self.lack(place, done, front) != missing:
+        if self.need(place, shown, front) != least:
+            return "that isn't what the done set needs"
+        if max(0, self.lack(place, shown, front)) != missing:
             return "that isn't the lack of the done set"
         enough = 1 + sum(self.takes(v, place) for v in range(self.events))
-        for last in done:
-            if not any(self.is_before(last, v) for v in done) and self.giving_more(last, place, enough).overrun_found(place) >= missing:
-                return "as many may lack without event %d" % last
+        for last in done or ():
+            if not any(self.is_before(last, v) for v in done):
+                more = self.giving_more(last, place, enough)
+                if more.overrun(place, more.flow_found(place)) >= missing:
+                    return "as many may lack without event %d" % last
         return None
 
     # compact tokenflow
@@ -274,8 +297,11 @@ class Plan:
         rule4 = all(amount == 0 or pair in self.skeleton for pair, amount in zip(self.pairs, flow))
         return rule1 and rule2 and rule4 and min(row[:self.flow_length()], default=0) >= 0
 
+    def shares_sum(self, row):
+        return sum(row[len(self.pairs):self.flow_length()])
+
     def overrun(self, place, row):
-        return max(0, sum(row[len(self.pairs):self.flow_length()]) - self.opening[place])
+        return max(0, self.shares_sum(row) - self.opening[place])
 
     def is_valid(self, place, row):
         """Rules 1 to 4."""
@@ -351,12 +377,12 @@ def listing(sheet):
     plan = read(sheet)
     answers = [plan.judge(p) for p in range(plan.places)]
     lines = ["plan events %d pairs %d free %d" % (plan.events, len(plan.pairs), plan.free)]
-    for p, (missing, _) in enumerate(answers):
-        lines.append("place %d open %d end %d missing %d" % (p, plan.opening[p], plan.end(p), missing))
-    short = [p for p, (missing, _) in enumerate(answers) if missing > 0]
-    lines.append("short %d total %d" % (len(short), sum(missing for missing, _ in answers)))
+    for p, answer in enumerate(answers):
+        lines.append("place %d open %d end %d spare %d" % (p, plan.opening[p], plan.end(p), answer.spare))
+    short = [p for p, answer in enumerate(answers) if answer.missing > 0]
+    lines.append("short %d total %d" % (len(short), sum(answer.missing for answer in answers)))
     if short:
-        lines.append("first %d done %s" % (short[0], " ".join(map(str, answers[short[0]][1])) or "none"))
+        lines.append("first %d done %s" % (short[0], " ".join(map(str, answers[short[0]].done)) or "none"))
     else:
         lines.append("runs")
     return "".join(line + "\n" for line in lines)

@@ -61,6 +61,14 @@ module _ {A : Type 0} where
   unfolding unlessRefused
   values-said f x y e = by-values (f .number) f x y e
 
+  by-clear : (k : ℕ) (f : Fault) (x y : A) → byNumber k f x .values ≡ some y → k ≡ 0
+  by-clear zero f x y e = refl
+  by-clear (suc k) f x y e = absurd (Option·none-ne-some y e)
+
+  pub values-clear : (f : Fault) (x y : A) → unlessRefused f x .values ≡ some y → f .number ≡ 0
+  unfolding unlessRefused
+  values-clear f x y e = by-clear (f .number) f x y e
+
   -- two refusals, or two answers, that say the same
   pub refusal-same : (f g : Fault) → refusal f ≡ refusal g → f ≡ g
   refusal-same f g e = ap (λ (said : Said A). said .fault) e

@@ -9,8 +9,10 @@ use mathlib.Core.Logic.{⊎-elim, _↔_}
 use mathlib.Core.Option.{Option·none-ne-some, Option·some-injective}
 use mathlib.Core.Path.{_≡_, refl, sym, ap, subst, _∙_}
 use borrow.Author.Tests.{lt-ltb}
-use lib.Dec.{T, eqb, eqb→eq, eqb-refl, ltb, ltb→lt}
+use lib.Dec.{T, eqb, ltb, ltb→lt}
+use lib.IntN.{ℤ, pos}
 use lib.ListN.{length, getD}
+use lib.Signed.{_≤ℤ_, _<ℤ_, clashℤ}
 use mir.Facts.{and-yes, yes-and, yes-ltb}
 use Rattle.finite.specs.Bounded.{same}
 use Rattle.finite.specs.Subset.{Set}
@@ -18,7 +20,7 @@ use Rattle.plan.specs.Prefix.{missing, runsAt, smallest}
 use Rattle.plan.specs.Cut.{Executable}
 use Rattle.plan.specs.Flow.{Flow, valid}
 use Rattle.theory.specs.Smallest.{IsSmallest}
-use Rattle.theory.specs.Theorems.{verdict, smallest-set}
+use Rattle.theory.specs.Theorems.{verdict, smallest-set, runs-none, spare-count}
 use Rattle.sheet.specs.Table.{eventsOf}
 use Rattle.sheet.specs.Items.{netOf, planOf}
 use Rattle.sheet.specs.Faults.{faultOf}
@@ -26,14 +28,15 @@ use Rattle.sheet.specs.Faultless.{faultless, sound}
 use Rattle.calls.specs.Call.{placeFault, row-known, place-known}
 use Rattle.calls.specs.FlowRow.{flowFault, flowLength, flowOf}
 use Rattle.calls.specs.Overwritten.{over-first, at-none}
+use Rattle.place.specs.Place.{spareAt}
 use Rattle.place_judgement.specs.Handed.{doneMark}
-use Rattle.calls.specs.Said.{Said, answer, said-answer}
+use Rattle.calls.specs.Said.{Said, answer, said-answer, refusal-apart, answer-same}
 use Rattle.flowcheck.specs.declared.Checked.{Checked}
 use Rattle.flowcheck.specs.declared.Checked.the-variants.{Valid, Invalid, Refused as Declined}
 use Rattle.flowcheck.specs.Checked.{checkSays, says as saysChecked}
 use Rattle.place_judgement.specs.declared.Judgement.{Judgement}
-use Rattle.place_judgement.specs.declared.Judgement.the-variants.{Refused, Runs, Short}
-use Rattle.place_judgement.specs.Judgement.{PlaceValues, says, judgeFault, valuesAt, judgementSays, marksAfter, Handed}
+use Rattle.place_judgement.specs.declared.Judgement.the-variants.{Refused, Spare}
+use Rattle.place_judgement.specs.Judgement.{says, judgeFault, judgementSays, marksAfter, Handed}
 use Rattle.plan_judgement.specs.declared.Answer.{Answer}
 use Rattle.plan_judgement.specs.Judgement.{planFault, planSays, says as saysPlan}
 use Rattle.reedanchor.specs.Till.{tillAnswer}
@@ -43,16 +46,25 @@ use Rattle.demands.specs.Whole.{TellsVerdict, SaysRuns, SaysShort, plan-
 abbrev pub doneIn : ℕ → List ℕ → Set
 doneIn n marks v = ltb v n && eqb (getD marks v 0) 1
 
+-- What an answer of the place judgement tells: a yes is a spare count that isn't below 0, a no is one below 0.
+abbrev pub TellsRuns : Judgement → Type 0
+TellsRuns (Refused f) = ⊥
+TellsRuns (Spare z) = pos 0 ≤ℤ z
+
+abbrev pub TellsShort : Judgement → Type 0
+TellsShort (Refused f) = ⊥
+TellsShort (Spare z) = z <ℤ pos 0
+
 -- What demand 2 says of an answer of the place judgement.
 pub record Published (s : List ℕ) (p : ℕ) (flow marks : List ℕ) (r : Judgement) : Type 0 where
   -- "The verdict is the published one for labelled partial orders": yes exactly if every cut is enabled (001, definition 6; 003,
   -- definition 3), and exactly if a valid compact tokenflow exists (003, theorems 2 to 4).
-  pub by-cuts : (r ≡ Runs) ↔ Executable (netOf s) (planOf s) p
-  pub by-flows : (r ≡ Runs) ↔ ((x : Flow) × T (valid (netOf s) (planOf s) p x))
+  pub by-cuts : TellsRuns r ↔ Executable (netOf s) (planOf s) p
+  pub by-flows : TellsRuns r ↔ ((x : Flow) × T (valid (netOf s) (planOf s) p x))
   -- "A yes at a place hands over a valid compact tokenflow,
-  pub yes : r ≡ Runs → (flow′ : List ℕ) → Handed s p flow marks flow′ → T (valid (netOf s) (planOf s) p (flowOf flow′))
+  pub yes : TellsRuns r → (flow′ : List ℕ) → Handed s p flow marks flow′ → T (valid (netOf s) (planOf s) p (flowOf flow′))
   -- a no the smallest done set at which most tokens lack."
-  pub no : (m : ℕ) → r ≡ Short m → IsSmallest (netOf s) (planOf s) p (doneIn (eventsOf s) (marksAfter s p flow marks))
+  pub no : TellsShort r → IsSmallest (netOf s) (planOf s) p (doneIn (eventsOf s) (marksAfter s p flow marks))
 
 -- Demand 2, of every answer r that says what the call's contract promises.
 pub record Demand2 : Type 0 where
@@ -67,26 +79,15 @@ pub record Demand2 : Type 0 where
 
 -- ---- the proof
 
-abbrev isRuns : Judgement → Bool
-isRuns (Refused f) = false
-isRuns Runs = true
-isRuns (Short m) = false
-
 abbrev isValid : Checked → Bool
 isValid (Declined f) = false
 isValid Valid = true
 isValid Invalid = false
 
--- the case of an answer by its values
-runs-by : (r : Judgement) (x : PlaceValues) → says r ≡ answer x → (r ≡ Runs) ↔ (x .runs ≡ true)
-runs-by (Refused f) x e = absurd (Option·none-ne-some x (ap (λ (said : Said PlaceValues). said .values) e))
-runs-by Runs x e =
-    let is = Option·some-injective _ x (ap (λ (said : Said PlaceValues). said .values) e) in
-    (λ _. ap (λ (v : PlaceValues). v .runs) (sym is), λ _. refl)
-runs-by (Short m) x e =
-    let is = Option·some-injective _ x (ap (λ (said : Said PlaceValues). said .values) e) in
-    let not : x .runs ≡ false = ap (λ (v : PlaceValues). v .runs) (sym is) in
-    (λ same. ap (λ (v : PlaceValues). v .runs) (sym is) ∙ ap isRuns same, λ yes. absurd (true≢false (sym yes ∙ not)))
+-- an answer by what it says
+said-spare : (r : Judgement) (x : ℤ) → says r ≡ answer x → r ≡ Spare x
+said-spare (Refused f) x e = absurd (refusal-apart f x e)
+said-spare (Spare z) x e = ap Spare (answer-same z x e)
 
 yes-by : (r : Checked) (b : Bool) → saysChecked r ≡ answer b → (r ≡ Valid) ↔ T b
 yes-by (Declined f) b e = absurd (Option·none-ne-some b (ap (λ (said : Said Bool). said .values) e))
@@ -100,28 +101,6 @@ one-is true = (λ t. tt, λ t. tt)
 one-is false = (λ t. t, λ t. absurd t)
 
 module _ (s : List ℕ) (p : ℕ) (flow marks : List ℕ) (r : Judgement) (told : says r ≡ judgementSays s p flow marks) (none : judgeFault s p flow marks .number ≡ 0) where
-  runs-at : (r ≡ Runs) ↔ T (runsAt (netOf s) (planOf s) p)
-  unfolding judgementSays
-  runs-at =
-      let case = runs-by r (valuesAt s p) (told ∙ said-answer (judgeFault s p flow marks) (valuesAt s p) none) in (
-        λ e. subst T (sym (case .0 e)) tt,
-        λ t. case .1 (same (runsAt (netOf s) (planOf s) p) true (λ _. tt) (λ _. t)),
-      )
-
-  runs-none : (r ≡ Runs) ↔ (missing (netOf s) (planOf s) p ≡ 0)
-  unfolding runsAt
-  runs-none = (
-    λ e. eqb→eq (missing (netOf s) (planOf s) p) 0 (runs-at .0 e),
-    λ e. runs-at .1 (subst (λ (m : ℕ). T (eqb m 0)) (sym e) (eqb-refl 0)),
-  )
-
-  short-some : (m : ℕ) → r ≡ Short m → 0 < missing (netOf s) (planOf s) p
-  short-some m e =
-      ⊎-elim
-      (λ z. absurd (true≢false (sym (ap isRuns (sym e ∙ runs-none .1 z)))))
-      (λ l. l)
-      (eq-zero-or-pos (missing (netOf s) (planOf s) p))
-
   known : (flowFault s p flow .number ≡ 0) × (eventsOf s ≤ length marks)
   unfolding judgeFault
   known = row-known (flowFault s p flow) marks (eventsOf s) none
@@ -129,6 +108,22 @@ module _ (s : List ℕ) (p : ℕ) (flow marks : List ℕ) (r : Judgement) (told 
   taken : faultOf s .number ≡ 0
   unfolding flowFault
   taken = place-known s p (row-known (placeFault s p) flow (flowLength s) (known .0) .0) .0
+
+  told-spare : r ≡ Spare (spareAt s p)
+  unfolding judgementSays
+  told-spare = said-spare r (spareAt s p) (told ∙ said-answer (judgeFault s p flow marks) (spareAt s p) none)
+
+  runs-at : TellsRuns r ↔ T (runsAt (netOf s) (planOf s) p)
+  runs-at =
+      let unless = spare-count (netOf s) (planOf s) p (sound s (faultless s taken)) .runs-unless in
+      (λ t. unless .1 (subst TellsRuns told-spare t), λ t. subst TellsRuns (sym told-spare) (unless .0 t))
+
+  short-some : TellsShort r → 0 < missing (netOf s) (planOf s) p
+  short-some t =
+      ⊎-elim
+      (λ z. clashℤ (subst TellsShort told-spare t) (subst TellsRuns told-spare (runs-at .1 (runs-none (netOf s) (planOf s) p .1 z))))
+      (λ l. l)
+      (eq-zero-or-pos (missing (netOf s) (planOf s) p))
 
   module _ (short : 0 < missing (netOf s) (planOf s) p) where
     smallest-known : IsSmallest (netOf s) (planOf s) p (smallest (netOf s) (planOf s) p)
@@ -161,12 +156,12 @@ module _ (s : List ℕ) (p : ℕ) (flow marks : List ℕ) (r : Judgement) (told 
       record {
         by-cuts = (λ e. v .by-cuts .0 (runs-at .0 e), λ x. runs-at .1 (v .by-cuts .1 x));
         by-flows = (λ e. v .by-flows .0 (runs-at .0 e), λ x. runs-at .1 (v .by-flows .1 x));
-        yes = λ e flow′ h. h .judged none .runs (runs-none .0 e);
-        no = λ m e.
+        yes = λ e flow′ h. h .judged none .runs (runs-none (netOf s) (planOf s) p .0 (runs-at .0 e));
+        no = λ e.
             subst
             (IsSmallest (netOf s) (planOf s) p)
-            (λ i v. done-is (short-some m e) v i)
-            (smallest-known (short-some m e));
+            (λ i v. done-is (short-some e) v i)
+            (smallest-known (short-some e));
       }
 
 check-passes : (s : List ℕ) (p : ℕ) (row : List ℕ) (r : Checked) → saysChecked r ≡ checkSays s p row → flowFault s p row .number ≡ 0

@@ -1,25 +1,29 @@
--- The counts that the calls return, and what they are: each is the missing count of its place.
+-- The counts that the calls return, and what they are: each is the missing count or the spare count of its place.
 use Prim.Native.Nat.{ℕ, _<_}
 use native.Mathlib.Omega.{arith}
 use mathlib.Core.List.{List}
 use mathlib.Core.Option.{some}
 use mathlib.Core.Path.{_≡_, sym, ap, subst, _∙_}
+use lib.IntN.{ℤ, negℤ}
 use lib.ListN.{getD}
-use Rattle.plan.specs.Prefix.{missing}
+use Rattle.plan.specs.Prefix.{above0, missing}
+use Rattle.theory.specs.Spare.{missing-spare}
 use Rattle.sheet.specs.Faults.{faultOf}
-use Rattle.sheet.specs.Table.{placesOf}
+use Rattle.sheet.specs.Table.{placesOf, eventsOf}
+use Rattle.sheet.specs.declared.Fault.{Fault}
 use Rattle.sheet.specs.Items.{netOf, planOf}
-use Rattle.calls.specs.Call.{row-known}
+use Rattle.calls.specs.Call.{placeFault, row-known, place-known}
+use Rattle.calls.specs.FlowRow.{flowFault, flowLength}
 use Rattle.calls.specs.Overwritten.{overwritten, over-first, at-none}
-use Rattle.calls.specs.Said.{Said, values-said}
+use Rattle.calls.specs.Said.{Said, unlessRefused, values-said, values-clear}
 use Rattle.ids.specs.declared.Place.{Place}
-use Rattle.place.specs.Place.{missingAt}
+use Rattle.place.specs.Place.{missingAt, spareAt}
 use Rattle.summary.specs.declared.Totals.{Totals}
 use Rattle.summary.specs.declared.Verdict.the-variants.{Short}
 use Rattle.summary.specs.Laws.{VerdictSays, verdict-says}
 use Rattle.summary.specs.Summary.{VerdictOf, PlanValues, valuesIn, valuesOf}
 use Rattle.place_judgement.specs.declared.Judgement.{Judgement}
-use Rattle.place_judgement.specs.Judgement.{PlaceValues, says, judgeFault, valuesAt, judgementSays}
+use Rattle.place_judgement.specs.Judgement.{says, judgeFault, judgementSays}
 use Rattle.plan_judgement.specs.declared.Answer.the-variants.{Judged}
 use Rattle.plan_judgement.specs.Judgement.{planFault, planValues, planSays, rowOf, says as saysPlan}
 
@@ -27,12 +31,19 @@ use Rattle.plan_judgement.specs.Judgement.{planFault, planValues, planSays, row
 abbrev pub Taken : List ℕ → Type 0
 Taken s = faultOf s .number ≡ 0
 
--- The missing count given for the place p of the sheet s. What the calls return is told by their contracts: `judgementSays` by that of
--- `judge_place`, `planSays` and `rowOf` by that of `judge_plan`.
+-- The spare count given for the place p of the sheet s: the one from the place judgement. What the calls return is told by their contracts:
+-- `judgementSays` by that of `judge_place`, `planSays` and `rowOf` by that of `judge_plan`.
+pub record SpareReturned (s : List ℕ) (p : ℕ) (z : ℤ) : Type 0 where
+  pub flow : List ℕ
+  pub marks : List ℕ
+  pub answer : Judgement
+  pub told : says answer ≡ judgementSays s p flow marks
+  pub values : says answer .values ≡ some z
+
+-- The missing count given for it.
 pub data Returned (s : List ℕ) : ℕ → ℕ → Type 0 where
-  -- the one from the place judgement,
-  by-place : (p : ℕ) (flow marks : List ℕ) (r : Judgement) (values : PlaceValues) → says r ≡ judgementSays s p flow marks → says r .values ≡ some values
-      → Returned s p (values .missing)
+  -- the one from the place judgement, which is the negative of its spare count, or 0 where that isn't below 0 (document 02, A3),
+  by-place : (p : ℕ) (z : ℤ) → SpareReturned s p z → Returned s p (above0 (negℤ z))
   -- and equally the place's number in the plan judgement's row,
   by-row : (p : ℕ) (row : List ℕ) → planFault s row .number ≡ 0 → p < placesOf s → Returned s p (getD (rowOf s row) p 0)
   -- and, for the first short place, the count in its verdict
@@ -47,12 +58,24 @@ totals-are s row totals told =
     (ap (λ (v : PlanValues). v .number) (sym all), ap (λ (v : PlanValues). v .count) (sym all))
 
 module _ (s : List ℕ) where
-  place-is : (p : ℕ) (flow marks : List ℕ) (r : Judgement) (values : PlaceValues) → says r ≡ judgementSays s p flow marks → says r .values ≡ some values
-      → values .missing ≡ missing (netOf s) (planOf s) p
-  unfolding judgementSays
-  place-is p flow marks r values told is =
-      let due = values-said (judgeFault s p flow marks) (valuesAt s p) values (ap (λ (said : Said PlaceValues). said .values) (sym told) ∙ is) in
-      ap (λ (v : PlaceValues). v .missing) (sym due)
+  module _ (p : ℕ) (z : ℤ) (given : SpareReturned s p z) where
+    fault : Fault
+    fault = judgeFault s p (given .flow) (given .marks)
+
+    due : unlessRefused fault (spareAt s p) .values ≡ some z
+    unfolding fault judgementSays
+    due = ap (λ (said : Said ℤ). said .values) (sym (given .told)) ∙ given .values
+
+    -- A spare count is the one of the definition,
+    pub spare-is : z ≡ spareAt s p
+    spare-is = sym (values-said fault (spareAt s p) z due)
+
+    -- and the place is one of the sheet.
+    pub place-is : p < placesOf s
+    unfolding fault judgeFault flowFault
+    place-is =
+        let flow = row-known (flowFault s p (given .flow)) (given .marks) (eventsOf s) (values-clear fault (spareAt s p) z due) in
+        place-known s p (row-known (placeFault s p) (given .flow) (flowLength s) (flow .0) .0) .1
 
   row-is : (p : ℕ) (row : List ℕ) → planFault s row .number ≡ 0 → p < placesOf s → getD (rowOf s row) p 0 ≡ missingAt s p
   unfolding planFault rowOf
@@ -67,6 +90,6 @@ module _ (s : List ℕ) where
 
   -- Each count is the missing count of the definition.
   pub count-is : (p m : ℕ) → Returned s p m → m ≡ missing (netOf s) (planOf s) p
-  count-is p m (by-place q flow marks r values told is) = place-is p flow marks r values told is
+  count-is p m (by-place q z given) = ap (λ (y : ℤ). above0 (negℤ y)) (spare-is q z given) ∙ sym (missing-spare (netOf s) (planOf s) q)
   count-is p m (by-row q row clear place) = row-is p row clear place
   count-is p m (by-verdict q k row totals told short) = sym (verdict-is q k row totals told short)

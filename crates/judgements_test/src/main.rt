@@ -36,6 +36,24 @@ fn print_word(n: u32) {
     print_number(n as u64);
 }
 
+// A number without its sign. It is widened first, since the least one has no opposite of its own width.
+fn magnitude(z: i32) -> u64 {
+    let wide = z as i64;
+    if wide < 0 {
+        (0 - wide) as u64
+    } else {
+        wide as u64
+    }
+}
+
+fn print_signed(z: i32) {
+    io::write_all(1, b" ");
+    if z < 0 {
+        io::write_all(1, b"-");
+    }
+    io::print_decimal(1, magnitude(z));
+}
+
 fn print_words(row: &[u32]) {
     for i in 0..row.len() {
         print_word(row[i]);
@@ -90,12 +108,9 @@ fn print_judgement(judgement: Judgement) {
         Judgement::Refused(f) => {
             print_fault(f);
         }
-        Judgement::Runs => {
-            io::write_all(1, b" runs");
-        }
-        Judgement::Short(missing) => {
-            io::write_all(1, b" short");
-            print_word(missing);
+        Judgement::Spare(spare) => {
+            io::write_all(1, b" spare");
+            print_signed(spare);
         }
     }
 }

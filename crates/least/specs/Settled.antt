@@ -45,24 +45,24 @@ Settles n pred amount fed free share givers enough lacks =
     (N : Net) (P : Plan) (p : ℕ) → PlaceRows N P p n (was pred) (was free) (was share)
     → PlaceSettled N P p enough (was pred) (rowsAre amount fed free share) (is givers) lacks
 
--- With the opening count for what is enough, it tells what is missing; with 0, the least opening count.
+-- It tells what is missing if what is enough doesn't pass the opening count; with 0 for what is enough, it is the least opening count.
 module _ (N : Net) (P : Plan) (p enough : ℕ) (pred : List ℕ) (r : Rows) (givers : List ℕ) (lacks : ℕ) (s : PlaceSettled N P p enough pred r givers lacks) where
   by-enough : {X : Type 0} → (enough < lacks → X) → (lacks ≤ enough → X) → X
   by-enough above within =
       ⊎-elim (λ t. within (leb→le lacks enough t)) (λ t. above (nleb→lt lacks enough t)) (decide (leb lacks enough))
 
-  pub missing-told : enough ≡ N .opening p → lacks - enough ≡ missing N P p
-  missing-told opens =
+  pub missing-told : enough ≤ N .opening p → lacks - N .opening p ≡ missing N P p
+  missing-told few =
       by-enough
-      (λ above. omega (arith, s .exact above, missing-opening N P p, opens))
-      (λ within. omega (arith, s .least, missing-opening N P p, opens))
+      (λ above. omega (arith, s .exact above, missing-opening N P p))
+      (λ within. omega (arith, s .least, missing-opening N P p, few, within))
 
   pub least-told : enough ≡ 0 → lacks ≡ leastOpening N P p
   least-told none = by-enough (λ above. sym (s .exact above)) (λ within. omega (arith, s .least))
 
-  -- where something is missing, what the takers lack passes the opening count
-  pub short-above : enough ≡ N .opening p → 0 < missing N P p → enough < lacks
-  short-above opens short = omega (arith, missing-told opens)
+  -- where something is missing, what the takers lack passes what is enough
+  pub short-above : enough ≤ N .opening p → 0 < missing N P p → enough < lacks
+  short-above few short = omega (arith, missing-told few, few, short)
 
 -- ---- the rows at the start r₀, in which nobody is fed, and those that are settled, r
 module _ (N : Net) (P : Plan) (p n : ℕ) (pred : List ℕ) (r₀ r : Rows) (at : PlaceRows N P p n pred (r₀ .free) (r₀ .share)) (unfed : Unfed (r₀ .fed)) (moved : Moved n pred r₀ r) where

@@ -1,4 +1,4 @@
--- Document 01's listing of its sheet of 78 bytes, and the listings of a plan that runs, of one that is short after an event, and of a faulty sheet.
+-- Document 01's listing of its sheet of 78 bytes, and the listings of a plan that runs with a token to spare, of one that is short after an event, and of a faulty sheet.
 use Prim.Native.Nat.{ℕ}
 use mathlib.Core.List.{List, [], _∷_, _++_}
 use mathlib.Core.Path.{_≡_, refl}
@@ -8,7 +8,7 @@ use Rattle.finite.specs.First.{first}
 use Rattle.finite.specs.Subset.{greatest, every}
 use Rattle.finite.specs.Sum.{sum, over}
 use Rattle.plan.specs.Order.{before, beforeBy, paired, freeCount}
-use Rattle.plan.specs.Prefix.{prefix, front, tokens, lack, missing, smallest, endCount}
+use Rattle.plan.specs.Prefix.{prefix, front, tokens, lack, missing, need, leastOpening, spare, smallest, endCount}
 use Rattle.sheet.specs.Table.{start, count, limit, itemLength, item, bodyEnd, due}
 use Rattle.sheet.specs.Items.{openingAt, takesAt, givesAt, labelAt, earlierAt, laterAt}
 use Rattle.sheet.specs.Faults.{tooShort, overLimitAt, overLimit, misplacedAt, misplaced, late, early, wrongEnd, overOpeningAt, overOpening, overWeightAt, overWeightIn, overWeight}
@@ -32,14 +32,14 @@ sheet a b c later =
 
 pub examples :
     (listingOf (sheet 1 0 0 2)
-    ≡ word "plan events 3 pairs 1 free 2\nplace 0 open 1 end -1 missing 1\nplace 1 open 0 end 1 missing 0\nplace 2 open 0 end 1 missing 0\nshort 1 total 1\nfirst 0 done none\n")
-    × (listingOf (sheet 2 0 0 2)
-    ≡ word "plan events 3 pairs 1 free 2\nplace 0 open 2 end 0 missing 0\nplace 1 open 0 end 1 missing 0\nplace 2 open 0 end 1 missing 0\nshort 0 total 0\nruns\n")
+    ≡ word "plan events 3 pairs 1 free 2\nplace 0 open 1 end -1 spare -1\nplace 1 open 0 end 1 spare 0\nplace 2 open 0 end 1 spare 0\nshort 1 total 1\nfirst 0 done none\n")
+    × (listingOf (sheet 3 0 0 2)
+    ≡ word "plan events 3 pairs 1 free 2\nplace 0 open 3 end 1 spare 1\nplace 1 open 0 end 1 spare 0\nplace 2 open 0 end 1 spare 0\nshort 0 total 0\nruns\n")
     × (listingOf (sheet 1 0 0 1)
-    ≡ word "plan events 3 pairs 1 free 2\nplace 0 open 1 end -1 missing 1\nplace 1 open 0 end 1 missing 1\nplace 2 open 0 end 1 missing 0\nshort 2 total 2\nfirst 0 done 0\n")
+    ≡ word "plan events 3 pairs 1 free 2\nplace 0 open 1 end -1 spare -1\nplace 1 open 0 end 1 spare -1\nplace 2 open 0 end 1 spare 0\nshort 2 total 2\nfirst 0 done 0\n")
     × (listingOf [] ≡ word "refused 1\n")
 unfolding sheet word digits decimal signed planLine placeLine totalsLine each doneEvents firstLine runsLine shortLine lineOf countLines linesOf refusedLine textOf listingOf
-    number any all before beforeBy paired freeCount prefix front tokens lack missing smallest endCount greatest every sum over start count limit itemLength item bodyEnd due
+    number any all before beforeBy paired freeCount prefix front tokens lack missing need leastOpening spare smallest endCount greatest every sum over start count limit itemLength item bodyEnd due
     openingAt takesAt givesAt labelAt earlierAt laterAt tooShort overLimitAt overLimit misplacedAt misplaced late early wrongEnd overOpeningAt overOpening overWeightAt overWeightIn
     overWeight noTransitionAt noTransition noEventAt noEvent selfPairAt selfPair samePair repeatAt repeated cycleAt cyclic layoutFaults itemFaults orderFaults contentFaults faults firstFault faultOf
     first orElse totalMissing shortPlaces

@@ -1,4 +1,4 @@
--- The listing of a sheet, as bytes. Document 01, "One desk's examples".
+-- The listing of a sheet, as bytes. Document 01, "One desk's examples", and document 02, A3.
 use Prim.Native.Nat.{ℕ, zero, suc}
 use Prim.Native.String.{String}
 use mathlib.Core.Bool.{cond}
@@ -9,7 +9,7 @@ use Rattle.finite.specs.Bounded.{any}
 use Rattle.finite.specs.Subset.{Set}
 use Rattle.plan.specs.Net.{Net, Plan}
 use Rattle.plan.specs.Order.{freeCount}
-use Rattle.plan.specs.Prefix.{missing, smallest, endCount}
+use Rattle.plan.specs.Prefix.{missing, spare, smallest, endCount}
 use Rattle.sheet.specs.Faults.{faultOf}
 use Rattle.sheet.specs.Items.{netOf, planOf}
 use Rattle.summary.specs.Summary.{totalMissing, shortPlaces, firstShort}
@@ -25,10 +25,10 @@ field w n = word w ++ decimal n
 unfoldable pub planLine : ℕ → ℕ → ℕ → List ℕ
 planLine events pairs free = field "plan events " events ++ field " pairs " pairs ++ field " free " free ++ word "\n"
 
--- Then per place: number, opening, end and missing counts.
-unfoldable pub placeLine : ℕ → ℕ → ℤ → ℕ → List ℕ
-placeLine p opening end missing =
-    field "place " p ++ field " open " opening ++ word " end " ++ signed end ++ field " missing " missing ++ word "\n"
+-- Then per place: number, opening, end and spare counts. Document 02, A3.
+unfoldable pub placeLine : ℕ → ℕ → ℤ → ℤ → List ℕ
+placeLine p opening end spare =
+    field "place " p ++ field " open " opening ++ word " end " ++ signed end ++ word " spare " ++ signed spare ++ word "\n"
 
 -- Then short places and total missing.
 unfoldable pub totalsLine : ℕ → ℕ → List ℕ
@@ -66,7 +66,7 @@ shortLine N P (some p) = firstLine p (P .events) (smallest N P p)
 
 -- the line of the place p
 unfoldable pub lineOf : Net → Plan → ℕ → List ℕ
-lineOf N P p = placeLine p (N .opening p) (endCount N P p) (missing N P p)
+lineOf N P p = placeLine p (N .opening p) (endCount N P p) (spare N P p)
 
 -- the lines that tell counts, of the plan, of each place and of all places
 unfoldable pub countLines : Net → Plan → List ℕ

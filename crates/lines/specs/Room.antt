@@ -6,7 +6,7 @@ abbrev pub planRoom : ℕ
 planRoom = 56
 
 abbrev pub placeRoom : ℕ
-placeRoom = 68
+placeRoom = 67
 
 abbrev pub placesRoom : ℕ
 placesRoom = mostPlaces * placeRoom

@@ -14,7 +14,7 @@ use text::put_word;
 // How many bytes a listing has at most, with ten digits to a number.
 pub const PLAN_ROOM: usize = 56;
 
-pub const PLACE_ROOM: usize = 68;
+pub const PLACE_ROOM: usize = 67;
 
 pub const PLACES_ROOM: usize = PLACES * PLACE_ROOM;
 

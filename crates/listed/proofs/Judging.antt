@@ -1,18 +1,20 @@
--- What the missing counts of a sheet's places say of its listing.
-use Prim.Native.Nat.{ℕ, zero, suc, _+_, _*_, _≤_, _<_}
+-- What the counts of a sheet's places say of its listing.
+use Prim.Native.Nat.{ℕ, zero, suc, _+_, _*_, _-_, _≤_, _<_}
 use native.Mathlib.Omega.{arith}
 use mathlib.Core.List.{List, _++_}
 use mathlib.Core.Option.{Option, none, some}
 use mathlib.Core.Path.{_≡_, refl, sym, ap, _∙_}
+use lib.ListN.{getD}
 use Rattle.finite.specs.Filled.{Filled}
 use Rattle.plan.specs.Order.{freeCount}
 use Rattle.sheet.specs.Table.{placesOf, eventsOf, pairsOf}
-use Rattle.sheet.specs.Items.{netOf, planOf}
+use Rattle.sheet.specs.Items.{openingAt, netOf, planOf}
 use Rattle.sheet.specs.Faults.{faultOf}
 use Rattle.sheet.specs.Faultless.{Faultless, sound}
 use Rattle.layout.specs.declared.Layout.{Layout}
 use Rattle.layout.specs.Layout.{LayoutOf}
-use Rattle.place.specs.Place.{missingAt}
+use Rattle.place.specs.Place.{missingAt, leastAt}
+use Rattle.theory.specs.Missing.{missing-opening}
 use Rattle.search.specs.Row.{members}
 use Rattle.summary.specs.declared.Verdict.{Verdict}
 use Rattle.summary.specs.declared.Verdict.the-variants.{Runs, Short}
@@ -22,10 +24,9 @@ use Rattle.plan_judgement.specs.declared.First.{First}
 use Rattle.summary.specs.declared.Totals.{Totals}
 use Rattle.plan_judgement.specs.First.{FirstTo}
 use Rattle.plan_judgement.specs.CountsInRow.{small-counts, row-values}
-use Rattle.plan_judgement.specs.Judgement.{planValues}
 use Rattle.counts.specs.Free.{free-pairs}
 use Rattle.lines.specs.Listing.{planLine, totalsLine, each, lastLine, shortLine, lineOf, countLines, linesOf, refusedLine, textOf, listingOf}
-use Rattle.lines.specs.MissingRow.{MissingRow}
+use Rattle.lines.specs.LeastRow.{LeastRow}
 
 -- the listing by the fault
 module _ (s : List ℕ) where
@@ -76,16 +77,26 @@ module _ (s : List ℕ) (known : Faultless s) (l : Layout) (is : LayoutOf s l) w
       let free : r ≡ freeCount (planOf s) = omega (arith, free-of, is .pairs, is .events, ap (λ (n : ℕ). n * n) (is .events)) in
       rw (is .events, is .pairs, free, h, t)
 
-  module _ (old new : List ℕ) (counted : Filled (missingAt s) (l .places) old new) where
-    pub missing-row : MissingRow s new
-    missing-row = record { counts = λ p m. counted .numbers p (omega (arith, is .places)) }
+  module _ (old least : List ℕ) (counted : Filled (leastAt s) (l .places) old least) where
+    pub least-row : LeastRow s least
+    least-row = record { counts = λ p m. counted .numbers p (omega (arith, is .places)) }
 
+    -- what they are above the opening counts is missing
+    pub missing-row : (zeros new : List ℕ) → Filled (λ p. getD least p 0 - openingAt s p) (l .places) zeros new → Filled (missingAt s) (l .places) zeros new
+    missing-row zeros new above =
+        record {
+          size = above .size;
+          numbers = λ p m. omega (arith, above .numbers p m, counted .numbers p m, missing-opening (netOf s) (planOf s) p);
+          rest = above .rest;
+        }
+
+  module _ (old new : List ℕ) (counted : Filled (missingAt s) (l .places) old new) where
     -- they are small enough to be added up
     pub small : MissingCounts new (l .places)
     small = small-counts s known (l .places) (is .places) old new counted
 
     pub told : (t : Totals) → valuesIn t ≡ valuesOf (countAt new) (l .places) → Told s t
-    unfolding planValues valuesOf
+    unfolding valuesOf
     told t e =
         let all = e ∙ row-values s known (l .places) (is .places) old new counted in
         record {

@@ -1,5 +1,5 @@
-// The listing of a sheet, written into a lent row of bytes. The sheet is examined once: the rows of its order and the done set of its first
-// short place are handed on.
+// The listing of a sheet, written into a lent row of bytes. The sheet is examined once and each place settled once: the rows of its order,
+// the least opening counts and the done set of its first short place are handed on.
 ghost use Prim.Native.Nat.{_≤_};
 ghost use mathlib.Core.Path.{_≡_};
 ghost use lib.ListN.{length};
@@ -7,7 +7,7 @@ ghost use Rattle.closure.specs.PlanRows.{Predecessors};
 ghost use Rattle.ids.specs.Lent.{was, is};
 ghost use Rattle.layout.specs.Layout.{LayoutOf};
 ghost use Rattle.lines.specs.Listing.{countLines, linesOf, listingOf};
-ghost use Rattle.lines.specs.MissingRow.{MissingRow};
+ghost use Rattle.lines.specs.LeastRow.{LeastRow};
 ghost use Rattle.lines.specs.Room.{countsRoom, listingRoom};
 ghost use Rattle.place.specs.Place.{missingAt};
 ghost use Rattle.sheet.specs.Faultless.{Faultless};
@@ -27,7 +27,8 @@ use lines::put_plan;
 use lines::put_refused;
 use lines::put_totals;
 use place_lines::put_places;
-use plan_judgement::count_missing;
+use plan_judgement::above_openings;
+use plan_judgement::count_all;
 use sheet::Fault;
 use sheet::plain_fault;
 use summary::sum_up;
@@ -38,18 +39,18 @@ pub enum Listed {
     Length(usize),
 }
 
-// The lines that tell counts, with the missing counts in a row and what they come to.
+// The lines that tell counts, with the least opening counts in a row and what the missing ones come to.
 fn put_counts(
     s: &[u8],
     l: Layout,
-    missing: &[u32; PLACES],
+    least: &[u32; PLACES],
     short: u32,
     total: u32,
     row: &mut [u8],
 ) -> usize
     requires { ⌜ Faultless (now s) ⌝ }
     requires { ⌜ LayoutOf (now s) l ⌝ }
-    requires { ⌜ MissingRow (now s) (now missing) ⌝ }
+    requires { ⌜ LeastRow (now s) (now least) ⌝ }
     requires { ⌜ short ≡ shortPlaces (missingAt (now s)) (placesOf (now s)) ⌝ }
     requires { ⌜ total ≡ totalMissing (missingAt (now s)) (placesOf (now s)) ⌝ }
     requires { ⌜ listingRoom ≤ length (now row) ⌝ }
@@ -57,7 +58,7 @@ fn put_counts(
 {
     let free = free_count(l.events, l.pairs);
     let a = put_plan(row, 0, l.events as u32, l.pairs as u32, free);
-    let b = put_places(s, l.places, missing, row, a);
+    let b = put_places(s, l.places, least, row, a);
     put_totals(row, b, short, total)
 }
 
@@ -69,10 +70,12 @@ fn put_lines(s: &[u8], l: Layout, pred: &[u32; ROWS], row: &mut [u8]) -> usize
     requires { ⌜ listingRoom ≤ length (now row) ⌝ }
     ensures { λ r. ⌜ Put (was row) (is row) 0 (linesOf (netOf (was s)) (planOf (was s))) r ⌝ }
 {
+    let mut least = [0u32; PLACES];
     let mut missing = [0u32; PLACES];
-    let first = count_missing(s, l, pred, &mut missing);
+    let first = count_all(s, l, true, pred, &mut least);
+    above_openings(s, l, &least, &mut missing);
     let totals = sum_up(&missing, l.places);
-    let end = put_counts(s, l, &missing, totals.short, totals.total, row);
+    let end = put_counts(s, l, &least, totals.short, totals.total, row);
     let v = totals.verdict;
     let done = first.done;
     put_verdict(v, &done, l.events, row, end)

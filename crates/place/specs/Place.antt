@@ -1,14 +1,15 @@
--- A place of a sheet: what is missing there, what each event gives and takes, and what is known when it is settled.
-use Prim.Native.Nat.{ℕ, _≤_, _<_}
+-- A place of a sheet: its counts, what each event gives and takes there, and what is known when it is settled.
+use Prim.Native.Nat.{ℕ, _<_}
 use native.Mathlib.Omega.{arith}
 use mathlib.Core.List.{List}
-use mathlib.Core.Path.{_≡_, sym, subst}
+use mathlib.Core.Path.{_≡_}
+use lib.IntN.{ℤ}
 use Rattle.closure.specs.PlanRows.{Predecessors}
 use Rattle.finite.specs.Filled.{Filled}
 use Rattle.ids.specs.Lent.{Lent, was, is}
 use Rattle.ids.specs.declared.Place.{Place}
 use Rattle.plan.specs.Net.{takenBy, givenBy}
-use Rattle.plan.specs.Prefix.{missing}
+use Rattle.plan.specs.Prefix.{missing, leastOpening, spare}
 use Rattle.sheet.specs.Faultless.{Faultless, sound}
 use Rattle.sheet.specs.Items.{netOf, planOf, labelAt}
 use Rattle.sheet.specs.Table.{placesOf, eventsOf}
@@ -16,9 +17,15 @@ use Rattle.tokenflow.specs.Rows.{rows}
 use Rattle.least.specs.PlaceRows.{PlaceRows}
 use Rattle.least.specs.Settled.{PlaceSettled}
 
--- What is missing at the place p of a sheet.
+-- What is missing at the place p of a sheet, the least opening count with which its plan runs there, and what the place has to spare.
 abbrev pub missingAt : List ℕ → ℕ → ℕ
 missingAt s p = missing (netOf s) (planOf s) p
+
+abbrev pub leastAt : List ℕ → ℕ → ℕ
+leastAt s p = leastOpening (netOf s) (planOf s) p
+
+abbrev pub spareAt : List ℕ → ℕ → ℤ
+spareAt s p = spare (netOf s) (planOf s) p
 
 -- What the event v gives to the place p of a sheet, and takes from it.
 abbrev pub givesIn : List ℕ → ℕ → ℕ → ℕ

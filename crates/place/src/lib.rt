@@ -1,6 +1,7 @@
-// One place of a sheet's plan, settled over all orders, and its missing count.
+// One place of a sheet's plan, settled over all orders, and its counts.
 ghost use Prim.Native.Nat.{_-_, _*_, _<_, _≤_};
 ghost use mathlib.Core.Path.{_≡_};
+ghost use lib.IntN.{subℕ};
 ghost use lib.ListN.{length, set};
 ghost use Rattle.closure.specs.PlanRows.{Predecessors};
 ghost use Rattle.finite.specs.Filled.{Filled};
@@ -10,7 +11,7 @@ ghost use Rattle.layout.specs.Layout.{LayoutOf};
 ghost use Rattle.sheet.specs.Faultless.{Faultless};
 ghost use Rattle.sheet.specs.Items.{planOf};
 ghost use Rattle.place.specs.Place.{givesIn, takesIn, SettledHere};
-ghost use Rattle.place.specs.Judged.{JudgedHere};
+ghost use Rattle.place.specs.Judged.{CountedHere};
 use ids::EVENTS;
 use ids::Event;
 use ids::Place;
@@ -22,6 +23,7 @@ use lookup::gives;
 use lookup::label;
 use lookup::opening;
 use lookup::takes;
+use ranks::event_order;
 
 // What the event v gives to the place and takes from it, written at v.
 fn fill_event(s: &[u8], l: Layout, p: Place, v: Event, free: &mut [u32], share: &mut [u32])
@@ -88,32 +90,50 @@ pub fn settle_place(
 }
 
 // What is lacking above the opening count.
-fn above(lacks: u32, opening: u32) -> u32
+pub fn above(lacks: u32, opening: u32) -> u32
     ensures { λ r. ⌜ r ≡ lacks - opening ⌝ }
 {
     if opening < lacks { lacks - opening } else { 0 }
 }
 
-// The missing count of a place. `givers` marks the smallest done set if something is missing, and the other rows hold a tokenflow.
-pub fn missing_count(
+// The opening count less the least one, with its sign. What is below 2 to the power of 31 fits with a sign, and so does a difference of two.
+fn less(opening: u32, least: u32) -> i32
+    requires { ⌜ (opening < 2147483648) × (least < 2147483648) ⌝ }
+    ensures { λ r. ⌜ r ≡ subℕ opening least ⌝ }
+{
+    opening as i32 - least as i32
+}
+
+// What a place is told to lack and to have: the missing count and the spare count.
+pub struct PlaceCounts {
+    pub missing: u32,
+    pub spare: i32,
+}
+
+// The counts of a place. Nothing is enough to stop at, so that settling ends with the least opening count. `givers` marks the smallest done
+// set if something is missing, and the other rows hold a tokenflow.
+pub fn place_counts(
     s: &[u8],
     l: Layout,
     p: Place,
     pred: &[u32; ROWS],
-    order: &[usize; EVENTS],
     amount: &mut [u32],
     fed: &mut [u32; ROWS],
     share: &mut [u32; EVENTS],
     givers: &mut [u32; WORDS],
-) -> u32
+) -> PlaceCounts
     requires { ⌜ Faultless (now s) ⌝ }
     requires { ⌜ LayoutOf (now s) l ⌝ }
     requires { ⌜ p .0 < l .places ⌝ }
     requires { ⌜ Predecessors (planOf (now s)) (now pred) ⌝ }
     requires { ⌜ l .events * mostEvents ≤ length (now amount) ⌝ }
-    ensures { λ r. ⌜ JudgedHere s p pred amount fed share givers r ⌝ }
+    ensures { λ r. ⌜ CountedHere s p pred amount fed share givers r ⌝ }
 {
+    let mut order = [0usize; EVENTS];
+    event_order(pred, l.events, &mut order);
     let opens = opening(s, l, p);
-    let lacks = settle_place(s, l, p, opens, pred, order, amount, fed, share, givers);
-    above(lacks, opens)
+    let least = settle_place(s, l, p, 0, pred, &order, amount, fed, share, givers);
+    let missing = above(least, opens);
+    let spare = less(opens, least);
+    PlaceCounts { missing, spare }
 }

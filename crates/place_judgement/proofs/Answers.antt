@@ -1,15 +1,12 @@
 -- The answer of the place judgement and its rows, at each place where it is given.
 use Prim.Native.Nat.{ℕ, _+_, _<_, _≤_}
 use native.Mathlib.Omega.{arith}
-use mathlib.Core.Bool.{Bool, true, false}
 use mathlib.Core.List.{List}
-use mathlib.Core.Path.{_≡_, refl, sym, ap, ap₂, _∙_}
-use borrow.Author.Tests.{ne-eqb}
-use lib.Dec.{leb, ltb, eqb}
+use mathlib.Core.Path.{_≡_, refl, sym, ap, _∙_}
+use lib.Dec.{leb, ltb}
+use lib.IntN.{ℤ}
 use lib.ListN.{length}
-use Rattle.plan.specs.Prefix.{missing, runsAt}
 use Rattle.sheet.specs.Table.{eventsOf}
-use Rattle.sheet.specs.Items.{netOf, planOf}
 use Rattle.sheet.specs.Faults.{faultOf}
 use Rattle.sheet.specs.Faultless.{Faultless, faultless}
 use Rattle.layout.specs.Layout.{LayoutOf}
@@ -20,20 +17,11 @@ use Rattle.calls.specs.FlowRow.{flowLength, flowFault}
 use Rattle.calls.specs.Overwritten.{at-fault, at-none}
 use Rattle.calls.specs.Said.{answer, said-answer, told-refusal}
 use Rattle.sheet.specs.declared.Fault.{Fault}
+use Rattle.place.specs.Place.{spareAt}
 use Rattle.place_judgement.specs.declared.Judgement.{Judgement}
-use Rattle.place_judgement.specs.declared.Judgement.the-variants.{Refused, Runs, Short}
+use Rattle.place_judgement.specs.declared.Judgement.the-variants.{Refused, Spare}
 use Rattle.place_judgement.specs.Handed.{marksDone, Written}
-use Rattle.place_judgement.specs.Judgement.{PlaceValues, says, judgeFault, valuesAt, judgementSays, marksAfter, Handed}
-
--- the values of the two cases, by the missing count
-module _ (s : List ℕ) (p m : ℕ) (is : m ≡ missing (netOf s) (planOf s) p) where
-  runs-is : m ≡ 0 → valuesAt s p ≡ record { runs = true; missing = 0 }
-  unfolding runsAt
-  runs-is clear = ap (λ (k : ℕ). record { runs = eqb k 0; missing = k }) (sym is ∙ clear)
-
-  short-is : ¬ (m ≡ 0) → valuesAt s p ≡ record { runs = false; missing = m }
-  unfolding runsAt
-  short-is there = ap₂ (λ (b : Bool) (k : ℕ). record { runs = b; missing = k }) (ne-eqb _ 0 (λ z. there (is ∙ z))) (sym is)
+use Rattle.place_judgement.specs.Judgement.{says, judgeFault, judgementSays, marksAfter, Handed}
 
 -- the fault of the call, by its four links
 pub fault-told : (s : List ℕ) (p : ℕ) (flow marks : List ℕ) (seen placed numbered e : Examined) → FaultTold s (faultOf s) seen
@@ -58,7 +46,7 @@ module _ (s : List ℕ) (p : ℕ) (flow marks : List ℕ) where
     pub refused : ¬ (e .fault .number ≡ 0) → (f : Fault) → f .number ≡ e .fault .number → f .item ≡ e .fault .item → Answered (Refused f) flow marks
     unfolding judgementSays marksAfter
     refused there f number item = (
-      told-refusal (valuesAt s p) (number ∙ number-is) (item ∙ ap (λ (g : Fault). g .item) (told .told)) (λ z. there (number-is ∙ z)),
+      told-refusal (spareAt s p) (number ∙ number-is) (item ∙ ap (λ (g : Fault). g .item) (told .told)) (λ z. there (number-is ∙ z)),
       (
         at-fault (judgeFault s p flow marks .number) _ marks (λ z. there (number-is ∙ z)),
         record { fault = λ _. refl; judged = λ z. absurd (there (number-is ∙ z)) },
@@ -93,19 +81,12 @@ module _ (s : List ℕ) (p : ℕ) (flow marks : List ℕ) where
       room = (omega (arith, laid .pairs, laid .events, by-flow .1), omega (arith, laid .events, by-marks .1))
 
       module _ (flow′ marks′ : List ℕ) (done : marks′ ≡ marksDone s p marks) (written : Written s p flow flow′) where
-        judged-told : (r : Judgement) (x : PlaceValues) → says r ≡ answer x → valuesAt s p ≡ x → Answered r flow′ marks′
+        pub spare-told : (z : ℤ) → z ≡ spareAt s p → Answered (Spare z) flow′ marks′
         unfolding judgementSays marksAfter
-        judged-told r x case is = (
-          case ∙ sym (said-answer (judgeFault s p flow marks) (valuesAt s p) clear ∙ ap answer is),
+        spare-told z is = (
+          ap answer is ∙ sym (said-answer (judgeFault s p flow marks) (spareAt s p) clear),
           (
             done ∙ at-none (judgeFault s p flow marks .number) _ marks clear,
             record { fault = λ there. absurd (there clear); judged = λ _. written },
           ),
         )
-
-        module _ (m : ℕ) (count : m ≡ missing (netOf s) (planOf s) p) where
-          pub runs-told : m ≡ 0 → Answered Runs flow′ marks′
-          runs-told nothing = judged-told Runs _ refl (runs-is s p m count nothing)
-
-          pub short-told : ¬ (m ≡ 0) → Answered (Short m) flow′ marks′
-          short-told some = judged-told (Short m) _ refl (short-is s p m count some)

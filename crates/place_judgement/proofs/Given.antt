@@ -1,5 +1,5 @@
 -- What a settled place hands over, where it runs and where it is short.
-use Prim.Native.Nat.{ℕ, _+_, _*_, _-_, _≤_, _<_}
+use Prim.Native.Nat.{ℕ, _+_, _*_, _≤_, _<_}
 use native.Mathlib.Omega.{arith}
 use mathlib.Core.Bool.{cond, not, _&&_}
 use mathlib.Core.List.{List}
@@ -7,7 +7,11 @@ use mathlib.Core.Logic.{⊎-elim}
 use mathlib.Core.Path.{_≡_, refl, sym, ap₂, subst, _∙_}
 use borrow.Author.Tests.{le-ltb}
 use lib.ListN.{length, replicate}
-use lib.Dec.{T, ltb, ltb→lt, nltb→le}
+use lib.Dec.{T, ltb, ltb→lt, nltb→le, leb→le}
+use lib.IntN.{ℤ, pos, negsuc, negℤ}
+use lib.Signed.{_≤ℤ_}
+use mir.Syntax.{w32}
+use mir.Val.{SFits}
 use Rattle.finite.specs.Bounded.{decide}
 use Rattle.finite.specs.Filled.{Filled}
 use Rattle.finite.specs.Row.{zeros-room}
@@ -17,7 +21,7 @@ use Rattle.plan.specs.Flow.{valid}
 use Rattle.plan.specs.Prefix.{missing, smallest}
 use Rattle.sheet.specs.Faultless.{Faultless}
 use Rattle.sheet.specs.Items.{netOf, planOf}
-use Rattle.sheet.specs.Table.{pairsOf}
+use Rattle.sheet.specs.Table.{placesOf, pairsOf}
 use Rattle.order.specs.Rows.{OrderRows}
 use Rattle.layout.specs.Layout.{LayoutOf}
 use Rattle.layout.specs.declared.Layout.{Layout}
@@ -27,7 +31,9 @@ use Rattle.search.specs.Row.{members}
 use Rattle.calls.specs.FlowRow.{flowLength, flowOf}
 use Rattle.calls.specs.Overwritten.{overwritten, filled-is}
 use Rattle.done_set.specs.Mark.{markIn}
+use Rattle.place.specs.Bounds.{spare-from, spare-to}
 use Rattle.place.specs.Judged.{Judged, JudgedIn}
+use Rattle.place.specs.Place.{spareAt}
 use Rattle.fold.specs.Folded.{Folded}
 use Rattle.fold.specs.Feeding.{Foldable}
 use Rattle.fold.specs.FromSheet.{sheet-foldable}
@@ -42,6 +48,16 @@ module _ (s : List ℕ) (known : Faultless s) (l : Layout) (e : LayoutOf s l) wh
 
   pub square-room : l .events * 256 ≤ length (replicate {A = ℕ} 65536 0)
   square-room = zeros-room _ 65536 (omega (arith, few-events))
+
+-- a spare count fits with its sign
+small-spare : (z : ℤ) → negℤ (pos 256000) ≤ℤ z → z ≤ℤ pos 1000000 → SFits w32 z
+small-spare (pos n) h k = record { sfits = omega (arith, leb→le n 1000000 (k .le)) }
+small-spare (negsuc n) h k = record { sfits = omega (arith, leb→le n 255999 (h .le)) }
+
+pub spare-fits : (s : List ℕ) → Faultless s → (p : ℕ) (l : Layout) → LayoutOf s l → p < l .places → SFits w32 (spareAt s p)
+spare-fits s known p l e place =
+    let here : p < placesOf s = omega (arith, e .places, place) in
+    small-spare (spareAt s p) (spare-from s known p here) (spare-to s known p here)
 
 filled-as : (f g : ℕ → ℕ) (k l : ℕ) (old new : List ℕ) → k ≡ l → ((i : ℕ) → f i ≡ g i) → Filled f k old new → new ≡ overwritten g l old
 filled-as f g k l old new e same h =

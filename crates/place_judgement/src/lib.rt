@@ -5,7 +5,7 @@ ghost use lib.ListN.{length};
 ghost use Rattle.ids.specs.Lent.{was, is};
 ghost use Rattle.layout.specs.Layout.{LayoutOf};
 ghost use Rattle.order.specs.Rows.{OrderRows};
-ghost use Rattle.place.specs.Place.{missingAt};
+ghost use Rattle.place.specs.Place.{spareAt};
 ghost use Rattle.sheet.specs.Faultless.{Faultless};
 ghost use Rattle.sheet.specs.Items.{planOf};
 ghost use Rattle.place_judgement.specs.Handed.{marksDone, Written};
@@ -20,21 +20,20 @@ use ids::ROWS;
 use ids::SQUARE;
 use ids::WORDS;
 use layout::Layout;
-use place::missing_count;
-use ranks::event_order;
+use place::place_counts;
 use sheet::Fault;
 
 mod handing;
 
 use handing::hand_flow;
 
+// A spare count below 0 says that the plan doesn't run at the place.
 pub enum Judgement {
     Refused(Fault),
-    Runs,
-    Short(u32),
+    Spare(i32),
 }
 
-// The missing count of a place of a sheet without fault, in rows that are long enough. The order of the plan is handed in, so that it is
+// The spare count of a place of a sheet without fault, in rows that are long enough. The order of the plan is handed in, so that it is
 // worked out once.
 fn judge_known(
     s: &[u8],
@@ -44,40 +43,39 @@ fn judge_known(
     pred: &[u32; ROWS],
     flow: &mut [u32],
     marks: &mut [u8],
-) -> u32
+) -> i32
     requires { ⌜ Faultless (now s) ⌝ }
     requires { ⌜ LayoutOf (now s) l ⌝ }
     requires { ⌜ p .0 < l .places ⌝ }
     requires { ⌜ OrderRows (planOf (now s)) (now succ) (now pred) ⌝ }
     requires { ⌜ (l .pairs + l .events ≤ length (now flow)) × (l .events ≤ length (now marks)) ⌝ }
-    ensures { λ r. ⌜ r ≡ missingAt (was s) (p .0) ⌝ }
+    ensures { λ r. ⌜ r ≡ spareAt (was s) (p .0) ⌝ }
     ensures { λ r. ⌜ is marks ≡ marksDone (was s) (p .0) (was marks) ⌝ }
     ensures { λ r. ⌜ Written (was s) (p .0) (was flow) (is flow) ⌝ }
 {
-    let mut order = [0usize; EVENTS];
     let mut amount = [0u32; SQUARE];
     let mut fed = [0u32; ROWS];
     let mut share = [0u32; EVENTS];
     let mut givers = [0u32; WORDS];
-    event_order(pred, l.events, &mut order);
-    let m = missing_count(
+    let counts = place_counts(
         s,
         l,
         p,
         pred,
-        &order,
         &mut amount,
         &mut fed,
         &mut share,
         &mut givers,
     );
+    let m = counts.missing;
     hand_flow(s, l, p, succ, pred, &amount, &fed, &share, m, flow);
     write_marks(&givers, m, marks, l.events);
-    m
+    counts.spare
 }
 
-// The place judgement. Running there: the flow row holds a valid flow and the marks are 0. Short: its numbers are 0, and the marks are 1
-// for the smallest done set at which most tokens lack. A fault changes neither row.
+// The place judgement: the opening count less the least opening count with which the plan runs at the place. Running there: the flow row
+// holds a valid flow and the marks are 0. Short: its numbers are 0, and the marks are 1 for the smallest done set at which most tokens lack.
+// A fault changes neither row.
 pub fn judge_place(s: &[u8], p: Place, flow: &mut [u32], marks: &mut [u8]) -> Judgement
     ensures { λ r. ⌜ says r ≡ judgementSays (was s) (p .0) (was flow) (was marks) ⌝ }
     ensures { λ r. ⌜ is marks ≡ marksAfter (was s) (p .0) (was flow) (was marks) ⌝ }
@@ -97,10 +95,6 @@ pub fn judge_place(s: &[u8], p: Place, flow: &mut [u32], marks: &mut [u8]) -> Ju
     if f.number != 0 {
         return Judgement::Refused(f);
     }
-    let m = judge_known(s, e.layout, p, &succ, &pred, flow, marks);
-    if m == 0 {
-        Judgement::Runs
-    } else {
-        Judgement::Short(m)
-    }
+    let spare = judge_known(s, e.layout, p, &succ, &pred, flow, marks);
+    Judgement::Spare(spare)
 }

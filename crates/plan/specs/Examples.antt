@@ -1,34 +1,38 @@
--- Document 01's starred examples, all twelve in one list, and what it and 003 show of the order: one theorem for each list.
+-- Document 01's starred examples, all twelve in one list, with their spare counts, and what it and 003 show of the order: one theorem for
+-- each list.
 use Prim.Native.Nat.{ℕ}
 use mathlib.Core.Bool.{Bool, true, false, _&&_, Bool·beq}
 use mathlib.Core.List.{List, [], _∷_}
 use mathlib.Core.Path.{_≡_, refl}
 use lib.Dec.{T, eqb, ltb}
-use lib.IntN.{pos, negsuc}
+use lib.IntN.{ℤ, pos, negsuc}
 use lib.ListN.{getD, length}
+use lib.Signed.{leZ}
 use Rattle.finite.specs.Bounded.{all, any, _⇒_}
 use Rattle.finite.specs.Subset.{Set, greatest, every}
 use Rattle.finite.specs.Sum.{sum, over, atEnd}
 use Rattle.plan.specs.Net.{Net, Plan}
 use Rattle.plan.specs.Order.{before, beforeBy, skeleton, paired, freeCount}
-use Rattle.plan.specs.Prefix.{prefix, front, tokens, lack, missing, need, leastOpening, smallest, endCount, runsAt}
+use Rattle.plan.specs.Prefix.{prefix, front, tokens, lack, missing, need, leastOpening, spare, smallest, endCount, runsAt}
 use Rattle.plan.specs.Flow.{Flow, inflow, outflow, shares, rule1, rule2, rule3, rule4, valid, otherwiseValid, overrun}
 
 -- two numbers: an event as takes/gives, or a pair as (earlier, later)
 abbrev pub Two : Type 0
 Two = ℕ × ℕ
 
--- A row of the table: one place, a transition for each event. The flow row is a witness: it overruns by the missing count.
+-- A row of the table: one place, a transition for each event. The flow row is a witness: it overruns by the missing count. Document 02, A3,
+-- adds the spare count.
 pub record Example : Type 0 where
   pub opening : ℕ
   pub events : List Two
   pub pairs : List Two
   pub missing : ℕ
   pub done : List ℕ
+  pub spare : ℤ
   pub flow : List ℕ
 
-abbrev row : ℕ → List Two → List Two → ℕ → List ℕ → List ℕ → Example
-row o es ps m d x = record { opening = o; events = es; pairs = ps; missing = m; done = d; flow = x }
+abbrev row : ℕ → List Two → List Two → ℕ → List ℕ → ℤ → List ℕ → Example
+row o es ps m d z x = record { opening = o; events = es; pairs = ps; missing = m; done = d; spare = z; flow = x }
 
 abbrev netOf : Example → Net
 netOf e =
@@ -71,6 +75,10 @@ rightSet e =
 rightLeast : Example → Bool
 rightLeast e = eqb (leastOpening (netOf e) (planOf e) 0) (shares (planOf e) (at (e .flow)))
 
+-- the spare count is the one beside it
+rightSpare : Example → Bool
+rightSpare e = leZ (spare (netOf e) (planOf e) 0) (e .spare) && leZ (e .spare) (spare (netOf e) (planOf e) 0)
+
 -- the flow is otherwise valid and overruns by the missing count; it is valid exactly if the plan runs
 rightFlow : Example → Bool
 rightFlow e =
@@ -79,30 +87,30 @@ rightFlow e =
 
 pub agree : List Example → Bool
 agree [] = true
-agree (e ∷ es) = rightCount e && rightSet e && rightLeast e && rightFlow e && agree es
+agree (e ∷ es) = rightCount e && rightSet e && rightLeast e && rightSpare e && rightFlow e && agree es
 
 pub starred : List Example
 starred =
-    row 0 [] [] 0 [] []
-    ∷ row 1 ((1, 0) ∷ (1, 0) ∷ []) [] 1 [] (1 ∷ 1 ∷ [])
-    ∷ row 2 ((1, 0) ∷ (1, 0) ∷ []) [] 0 [] (1 ∷ 1 ∷ [])
-    ∷ row 1 ((1, 1) ∷ (1, 1) ∷ []) [] 1 [] (1 ∷ 1 ∷ [])
-    ∷ row 1 ((1, 1) ∷ (1, 1) ∷ []) ((0, 1) ∷ []) 0 [] (1 ∷ 1 ∷ 0 ∷ [])
-    ∷ row 0 ((0, 1) ∷ (0, 0) ∷ (1, 0) ∷ []) ((0, 1) ∷ (1, 2) ∷ []) 0 [] (1 ∷ 1 ∷ 0 ∷ 0 ∷ 0 ∷ [])
-    ∷ row 1 ((0, 1) ∷ (1, 0) ∷ (1, 0) ∷ []) ((0, 1) ∷ []) 0 [] (1 ∷ 0 ∷ 0 ∷ 1 ∷ [])
-    ∷ row 0 ((0, 0) ∷ (1, 0) ∷ (0, 0) ∷ []) ((0, 1) ∷ []) 1 (0 ∷ []) (0 ∷ 0 ∷ 1 ∷ 0 ∷ [])
-    ∷ row 3 ((2, 2) ∷ (2, 2) ∷ []) [] 1 [] (2 ∷ 2 ∷ [])
-    ∷ row 3 ((2, 2) ∷ (2, 2) ∷ []) ((0, 1) ∷ []) 0 [] (2 ∷ 2 ∷ 0 ∷ [])
-    ∷ row 0 ((1, 1) ∷ []) [] 1 [] (1 ∷ [])
-    ∷ row 0 ((0, 1) ∷ (1, 0) ∷ []) [] 1 [] (0 ∷ 1 ∷ [])
+    row 0 [] [] 0 [] (pos 0) []
+    ∷ row 1 ((1, 0) ∷ (1, 0) ∷ []) [] 1 [] (negsuc 0) (1 ∷ 1 ∷ [])
+    ∷ row 2 ((1, 0) ∷ (1, 0) ∷ []) [] 0 [] (pos 0) (1 ∷ 1 ∷ [])
+    ∷ row 1 ((1, 1) ∷ (1, 1) ∷ []) [] 1 [] (negsuc 0) (1 ∷ 1 ∷ [])
+    ∷ row 1 ((1, 1) ∷ (1, 1) ∷ []) ((0, 1) ∷ []) 0 [] (pos 0) (1 ∷ 1 ∷ 0 ∷ [])
+    ∷ row 0 ((0, 1) ∷ (0, 0) ∷ (1, 0) ∷ []) ((0, 1) ∷ (1, 2) ∷ []) 0 [] (pos 0) (1 ∷ 1 ∷ 0 ∷ 0 ∷ 0 ∷ [])
+    ∷ row 1 ((0, 1) ∷ (1, 0) ∷ (1, 0) ∷ []) ((0, 1) ∷ []) 0 [] (pos 0) (1 ∷ 0 ∷ 0 ∷ 1 ∷ [])
+    ∷ row 0 ((0, 0) ∷ (1, 0) ∷ (0, 0) ∷ []) ((0, 1) ∷ []) 1 (0 ∷ []) (negsuc 0) (0 ∷ 0 ∷ 1 ∷ 0 ∷ [])
+    ∷ row 3 ((2, 2) ∷ (2, 2) ∷ []) [] 1 [] (negsuc 0) (2 ∷ 2 ∷ [])
+    ∷ row 3 ((2, 2) ∷ (2, 2) ∷ []) ((0, 1) ∷ []) 0 [] (pos 1) (2 ∷ 2 ∷ 0 ∷ [])
+    ∷ row 0 ((1, 1) ∷ []) [] 1 [] (negsuc 0) (1 ∷ [])
+    ∷ row 0 ((0, 1) ∷ (1, 0) ∷ []) [] 1 [] (negsuc 0) (0 ∷ 1 ∷ [])
     ∷ []
 
 pub starred-agree : T (agree starred)
-unfolding agree rightCount rightSet rightLeast rightFlow starred holds all any sum over atEnd greatest every before beforeBy skeleton
-    prefix front tokens lack missing need leastOpening smallest runsAt inflow outflow shares rule1 rule2 rule3 rule4 valid otherwiseValid overrun
+unfolding agree rightCount rightSet rightLeast rightSpare rightFlow starred holds all any sum over atEnd greatest every before beforeBy skeleton
+    prefix front tokens lack missing need leastOpening spare smallest runsAt inflow outflow shares rule1 rule2 rule3 rule4 valid otherwiseValid overrun
 starred-agree = tt
 
--- The plan of document 01's listing: its free count, and each place's end and missing count.
+-- The plan of document 01's listing: its free count, and each place's end, missing and spare count.
 pub listingNet : Net
 listingNet =
     record {
@@ -120,8 +128,9 @@ pub listing-agrees :
     (freeCount listingPlan ≡ 2)
     × (endCount listingNet listingPlan 0 ≡ negsuc 0) × (endCount listingNet listingPlan 1 ≡ pos 1) × (endCount listingNet listingPlan 2 ≡ pos 1)
     × (missing listingNet listingPlan 0 ≡ 1) × (missing listingNet listingPlan 1 ≡ 0) × (missing listingNet listingPlan 2 ≡ 0)
-unfolding listingNet listingPlan freeCount paired endCount tokens missing lack prefix front before beforeBy all any sum over greatest
-listing-agrees = (refl, refl, refl, refl, refl, refl, refl)
+    × (spare listingNet listingPlan 0 ≡ negsuc 0) × (spare listingNet listingPlan 1 ≡ pos 0) × (spare listingNet listingPlan 2 ≡ pos 0)
+unfolding listingNet listingPlan freeCount paired endCount tokens missing lack spare leastOpening need prefix front before beforeBy all any sum over greatest
+listing-agrees = (refl, refl, refl, refl, refl, refl, refl, refl, refl, refl)
 
 -- Four events in a row with the pair (0, 3) given as well: that one pair has events between its ends, so it is no skeleton pair.
 pub chainPlan : Plan

@@ -56,6 +56,11 @@ need N P p D =
 unfoldable pub leastOpening : Net → Plan → ℕ → ℕ
 leastOpening N P p = greatest (P .events) (λ D. on (prefix P D) (above0 (need N P p D)))
 
+-- The spare count of a place is the opening count − the least opening count, with its sign: how many tokens the place could lose, or, below
+-- 0, how many are missing. Document 02, A3.
+unfoldable pub spare : Net → Plan → ℕ → ℤ
+spare N P p = pos (N .opening p) -ℤ pos (leastOpening N P p)
+
 -- A plan runs at a place if its missing count is 0, and runs if that holds at every place.
 unfoldable pub runsAt : Net → Plan → ℕ → Bool
 runsAt N P p = eqb (missing N P p) 0

@@ -79,7 +79,7 @@ module _ (s row : List ℕ) (e : Examined) (told : FaultTold s (planFault s row)
           filled-is (missingAt s) places row new counted ∙ ap (λ (k : ℕ). overwritten (missingAt s) k row) is
 
       pub judged : (t : Totals) → valuesIn t ≡ valuesOf (countAt new) places → (says (Judged t) ≡ planSays s row) × (new ≡ rowOf s row)
-      unfolding planSays rowOf
+      unfolding planSays planValues rowOf
       judged t is-sum = (
         ap answer (is-sum ∙ row-values s known places is row new counted) ∙ sym (said-answer (planFault s row) (planValues s) clear),
         row-filled ∙ at-none (planFault s row .number) (overwritten (missingAt s) (placesOf s) row) row clear,

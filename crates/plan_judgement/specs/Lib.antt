@@ -1,4 +1,5 @@
 pub mod Judgement
+pub mod Asked
 pub mod First
 pub mod CountsInRow
 pub mod Laws

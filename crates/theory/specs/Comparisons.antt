@@ -1,5 +1,5 @@
 -- What the numbers at a place depend on: what each event takes and gives there, the order and the opening count. How they change with the last two.
-use Prim.Native.Nat.{ℕ, _+_, _-_, _≤_, _<_}
+use Prim.Native.Nat.{ℕ, _-_, _≤_, _<_}
 use native.Mathlib.Nat.{le-antisymm}
 use native.Mathlib.Omega.{arith}
 use mathlib.Core.Bool.{Bool, true, false, cond, _&&_}
@@ -122,13 +122,17 @@ least-same N P p M Q q s order =
     (least-order M Q q N P p (turned N P p M Q q s) (λ u v. order u v .1))
     (least-order N P p M Q q s (λ u v. order u v .0))
 
--- More order never raises the missing count.
-pub missing-order : (N : Net) (P Q : Plan) (p : ℕ) → MoreOrder P Q → missing N Q p ≤ missing N P p
-missing-order N P Q p m = omega (arith, missing-opening N P p, missing-opening N Q p, least-order N P p N Q p weights (m .order))
-  where
-    weights : SameWeights N P p N Q p
-    weights =
-        record { events = m .events; takes = λ v l. ap (λ (t : ℕ). N .takes t p) (m .labels v l); gives = λ v l. ap (λ (t : ℕ). N .gives t p) (m .labels v l) }
+-- More order never raises it, nor the missing count.
+module _ (N : Net) (P Q : Plan) (p : ℕ) (m : MoreOrder P Q) where
+  pub weights-ordered : SameWeights N P p N Q p
+  weights-ordered =
+      record { events = m .events; takes = λ v l. ap (λ (t : ℕ). N .takes t p) (m .labels v l); gives = λ v l. ap (λ (t : ℕ). N .gives t p) (m .labels v l) }
+
+  pub least-ordered : leastOpening N Q p ≤ leastOpening N P p
+  least-ordered = least-order N P p N Q p weights-ordered (m .order)
+
+  pub missing-order : missing N Q p ≤ missing N P p
+  missing-order = omega (arith, missing-opening N P p, missing-opening N Q p, least-ordered)
 
 -- ---- the same weights and order
 
@@ -180,13 +184,14 @@ module _ (N : Net) (P : Plan) (p : ℕ) (M : Net) (Q : Plan) (q : ℕ) (s : Same
   end-alike = ap (λ (n : ℕ). tokens N P p (λ v. ltb v n)) (s .weights .events) ∙ tokens-alike (full Q)
 
 -- Other places' numbers don't matter.
-pub missing-same : (N M : Net) (P : Plan) (p : ℕ) → Labelled N P → SameAt p N M → missing N P p ≡ missing M P p
-missing-same N M P p lab s = missing-alike N P p M P p place
-  where
-    place : SamePlace N P p M P p
-    place =
-        record {
-          weights = record { events = refl; takes = λ v l. s .takes (P .label v) (lab .named v l); gives = λ v l. s .gives (P .label v) (lab .named v l) };
-          order = λ u v. (λ b. b, λ b. b);
-          opening = s .opening;
-        }
+module _ (N M : Net) (P : Plan) (p : ℕ) (lab : Labelled N P) (s : SameAt p N M) where
+  pub place-same : SamePlace N P p M P p
+  place-same =
+      record {
+        weights = record { events = refl; takes = λ v l. s .takes (P .label v) (lab .named v l); gives = λ v l. s .gives (P .label v) (lab .named v l) };
+        order = λ u v. (λ b. b, λ b. b);
+        opening = s .opening;
+      }
+
+  pub missing-same : missing N P p ≡ missing M P p
+  missing-same = missing-alike N P p M P p place-same

@@ -7,6 +7,7 @@ pub mod Least
 pub mod Missing
 pub mod Duality
 pub mod Comparisons
+pub mod Spare
 pub mod Overrun
 pub mod Smallest
 pub mod Cuts

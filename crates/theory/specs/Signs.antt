@@ -11,7 +11,7 @@ use lib.Signed.{leZ, _≤ℤ_}
 use borrow.Author.Tests.{ltb-true, ltb-false}
 use Rattle.plan.specs.Prefix.{above0}
 
-minus : (a b : ℕ) → pos a -ℤ pos b ≡ subℕ a b
+pub minus : (a b : ℕ) → pos a -ℤ pos b ≡ subℕ a b
 minus a zero =
     ap pos (add-zero a ∙ sym (sub-zero a)) ∙ ap (λ (t : Bool). cond t (negsuc (0 - suc a)) (pos (a - 0))) (sym (leb·suc-zero a))
 minus a (suc b) = refl
@@ -44,10 +44,17 @@ minus-below a b c d h = record { le = go (ltb a b) (ltb c d) refl refl }
     go false true e k = absurd (omega (arith, ltb-false a b e, ltb-true c d k))
     go false false e k = le→leb (a - b) (c - d) (omega (arith, ltb-false a b e, ltb-false c d k))
 
+-- a difference with its sign turned, and what is left if it is taken from the first number
+pub minus-turned : (a b : ℤ) → negℤ (a -ℤ b) ≡ b -ℤ a
+minus-turned a b = negℤ-+ℤ a (negℤ b) ∙ ap (λ (z : ℤ). negℤ a +ℤ z) (negℤ-negℤ b) ∙ +ℤ-comm (negℤ a) b
+
+pub minus-minus : (a b : ℤ) → a -ℤ (a -ℤ b) ≡ b
+minus-minus a b = ap (λ (z : ℤ). a +ℤ z) (minus-turned a b) ∙ +ℤ-comm a (b -ℤ a) ∙ -ℤ-+ℤ-cancel b a
+
 -- the takes of a front, f, less the tokens there
 lack-sum : (f t X : ℤ) → f -ℤ (X -ℤ t) +ℤ X ≡ f +ℤ t
 lack-sum f t X =
-    ap (λ (z : ℤ). f +ℤ z +ℤ X) (negℤ-+ℤ X (negℤ t) ∙ ap (λ (z : ℤ). negℤ X +ℤ z) (negℤ-negℤ t) ∙ +ℤ-comm (negℤ X) t)
+    ap (λ (z : ℤ). f +ℤ z +ℤ X) (minus-turned X t)
     ∙ +ℤ-assoc f (t -ℤ X) X
     ∙ ap (λ (z : ℤ). f +ℤ z) (-ℤ-+ℤ-cancel t X)
 

@@ -6,26 +6,27 @@ use mathlib.Core.Bool.{Bool, _&&_}
 use mathlib.Core.Logic.{_⊎_, inl, inr, ⊎-elim, _↔_}
 use mathlib.Core.Path.{_≡_, refl, sym, ap, subst, subst₂, _∙_}
 use lib.Dec.{T, eqb, eqb→eq, eqb-refl, leb, le→leb, leb→le}
-use lib.IntN.{ℤ, pos, negsuc, _-ℤ_}
+use lib.IntN.{ℤ, pos, negsuc, negℤ, _+ℤ_, _-ℤ_}
 use lib.Signed.{leZ, _≤ℤ_}
 use native.Mathlib.Nat.{eq-zero-or-pos}
 use mir.Facts.{and-yes, yes-and}
 use Rattle.finite.specs.Bounded.{all-yes, yes-all}
 use Rattle.finite.specs.Subset.{Set, empty}
-use Rattle.finite.specs.Sum.{over, over-mono, sum-zero}
+use Rattle.finite.specs.Sum.{sum, over, over-mono, sum-zero}
 use Rattle.plan.specs.Net.{Net, Plan, takenBy, Labelled}
 use Rattle.plan.specs.Order.{Sound}
-use Rattle.plan.specs.Prefix.{IsPrefix, front, full, stepLack, lack, above0, missing, need, leastOpening, runsAt, runs, smallest, endCount}
+use Rattle.plan.specs.Prefix.{IsPrefix, front, full, stepLack, lack, above0, missing, need, leastOpening, spare, runsAt, runs, smallest, endCount}
 use Rattle.plan.specs.Cut.{IsCut, preset, Executable, Execution}
 use Rattle.plan.specs.Flow.{Flow, rule1, rule2, rule3, rule4, valid, otherwiseValid, overrun, shares}
 use Rattle.plan.specs.Compare.{withMore, opensWith, MoreOrder, SameAt, SameWeights, SamePlace}
 use Rattle.theory.specs.Comparisons.{least-same, missing-more, missing-opens, missing-order, missing-same, least-alike, missing-alike, lack-alike, smallest-alike, end-alike}
 use Rattle.theory.specs.Cuts.{takenUpTo, some-cut, prefixes-cuts, cuts-prefixes}
 use Rattle.theory.specs.Least.{taken, given, need-is, need-above0, least-bounds, least-attained}
-use Rattle.theory.specs.Missing.{supply, step-lack-is, lack-is, lack-above0, lack-need, missing-opening, missing-bounds, missing-attained}
+use Rattle.theory.specs.Missing.{supply, step-lack-is, lack-is, lack-above0, lack-need, missing-opening, missing-bounds, missing-attained, least-most}
 use Rattle.theory.specs.Overrun.{shares-bounds, shares-attained, overrun-bounds, overrun-attained}
 use Rattle.theory.specs.Prefixes.{empty-prefix, full-prefix}
 use Rattle.theory.specs.Signs.{le-minus, minus-below}
+use Rattle.theory.specs.Spare.{spare-minus, least-spare, missing-spare, spare-more, spare-most, spare-least, spare-order, spare-alike, spare-same}
 use Rattle.theory.specs.Smallest.{IsSmallest, positive, smallest-is}
 
 -- "The empty set and the full set are done sets."
@@ -80,6 +81,7 @@ pub record LeastOpening (N : Net) (P : Plan) (p : ℕ) : Type 0 where
 pub record SameNumbers (N : Net) (P : Plan) (p : ℕ) (M : Net) (Q : Plan) (q : ℕ) : Type 0 where
   pub same-least : leastOpening N P p ≡ leastOpening M Q q
   pub same-missing : missing N P p ≡ missing M Q q
+  pub same-spare : spare N P p ≡ spare M Q q
   pub same-lack : (D : Set) → lack N P p D ≡ lack M Q q D
   pub same-smallest : smallest N P p ≡ smallest M Q q
   pub same-end : endCount N P p ≡ endCount M Q q
@@ -98,6 +100,27 @@ pub record LeastCount (N : Net) (P : Plan) (p : ℕ) : Type 0 where
   pub more-order : (Q : Plan) → MoreOrder P Q → missing N Q p ≤ missing N P p
   -- other places' numbers don't matter
   pub other-places : (M : Net) → Labelled N P → SameAt p N M → missing M P p ≡ missing N P p
+
+-- The spare count: the opening count less the least opening count, with its sign. Document 02, A3.
+pub record SpareCount (N : Net) (P : Plan) (p : ℕ) : Type 0 where
+  -- the plan runs there exactly if it isn't below 0,
+  pub runs-unless : T (runsAt N P p) ↔ (pos 0 ≤ℤ spare N P p)
+  -- and with k tokens opening exactly if k is no less than the opening count less the spare count: the least opening count
+  pub runs-from : (k : ℕ) → T (runsAt (opensWith N p k) P p) ↔ ((pos (N .opening p) -ℤ spare N P p) ≤ℤ pos k)
+  -- some flow otherwise valid has exactly as many shares, none fewer
+  pub shares-reached : (x : Flow) × T (otherwiseValid N P p x) × (pos (shares P x) ≡ pos (N .opening p) -ℤ spare N P p)
+  pub not-undercut : (x : Flow) → T (otherwiseValid N P p x) → (pos (N .opening p) -ℤ spare N P p) ≤ℤ pos (shares P x)
+  -- the missing count is its negative, or 0 where it isn't below 0
+  pub missing-is : missing N P p ≡ above0 (negℤ (spare N P p))
+  -- it lies between the opening count and the negative of all that is taken
+  pub at-most : spare N P p ≤ℤ pos (N .opening p)
+  pub at-least : negℤ (pos (sum (P .events) (takenBy N P p))) ≤ℤ spare N P p
+  -- k more tokens opening raise it by exactly k
+  pub more-tokens : (k : ℕ) → spare (withMore N p k) P p ≡ spare N P p +ℤ pos k
+  -- more order never lowers it
+  pub more-order : (Q : Plan) → MoreOrder P Q → spare N P p ≤ℤ spare N Q p
+  -- other places' numbers don't matter
+  pub other-places : (M : Net) → Labelled N P → SameAt p N M → spare M P p ≡ spare N P p
 
 -- ---- the proofs
 
@@ -121,6 +144,7 @@ same-numbers N P p M Q q s =
     record {
       same-least = least-alike N P p M Q q s;
       same-missing = missing-alike N P p M Q q s;
+      same-spare = spare-alike N P p M Q q s;
       same-lack = lack-alike N P p M Q q s;
       same-smallest = smallest-alike N P p M Q q s;
       same-end = end-alike N P p M Q q s;
@@ -249,6 +273,35 @@ module _ (N : Net) (P : Plan) (p : ℕ) (S : Sound P) where
         more-tokens = missing-more N P p;
         more-order = λ Q m. missing-order N P Q p m;
         other-places = λ M l s. sym (missing-same N M P p l s);
+      }
+
+  from-least : (k : ℕ) → (leastOpening N P p ≤ k) ↔ ((pos (N .opening p) -ℤ spare N P p) ≤ℤ pos k)
+  from-least k = (
+    λ h. subst (λ (z : ℤ). z ≤ℤ pos k) (sym (least-spare N P p)) (record { le = le→leb (leastOpening N P p) k h }),
+    λ h. leb→le (leastOpening N P p) k (subst (λ (z : ℤ). z ≤ℤ pos k) (least-spare N P p) h .le),
+  )
+
+  pub spare-count : SpareCount N P p
+  spare-count =
+      let least = least-opening in
+      let o = N .opening p in
+      let l = leastOpening N P p in
+      record {
+        runs-unless = (
+          λ t. subst (λ (z : ℤ). pos 0 ≤ℤ z) (sym (spare-minus N P p)) (record { le = le-minus 0 o l .1 (omega (arith, missing-opening N P p, runs-none N P p .0 t)) }),
+          λ h.
+              let covered = le-minus 0 o l .0 (subst (λ (z : ℤ). T (leZ (pos 0) z)) (spare-minus N P p) (h .le)) in
+              runs-none N P p .1 (omega (arith, missing-opening N P p, covered)),
+        );
+        runs-from = λ k. (λ t. from-least k .0 (least .runs-from k .0 t), λ h. least .runs-from k .1 (from-least k .1 h));
+        shares-reached = (least .shares-reached .0, least .shares-reached .1, ap pos (least .shares-reached .2) ∙ sym (least-spare N P p));
+        not-undercut = λ x t. from-least (shares P x) .0 (least .not-undercut x t);
+        missing-is = missing-spare N P p;
+        at-most = spare-most N P p o (omega arith);
+        at-least = spare-least N P p (sum (P .events) (takenBy N P p)) (least-most N P p S);
+        more-tokens = spare-more N P p;
+        more-order = λ Q m. spare-order N P Q p m;
+        other-places = λ M l s. sym (spare-same N M P p l s);
       }
 
 -- A plan runs exactly if it does at every place.

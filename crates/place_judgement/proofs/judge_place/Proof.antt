@@ -1,13 +1,15 @@
--- `place_judgement::judge_place` meets its contract: the chain tells the call's fault; without one the missing count tells the case.
+-- `place_judgement::judge_place` meets its contract: the chain tells the call's fault; without one the spare count is told.
 use native.Mathlib.Omega.{arith}
 use mathlib.Core.Path.{sym, ap, subst, _∙_}
 use denote.Ref.{now}
 use borrow.Author.Needs.{needs}
+use mir.Syntax.{w32}
+use mir.ValLaws.{toZ-ofZ}
 use Rattle.calls.specs.Refusal.{FaultTold, sheet-told}
 use Rattle.layout.specs.Layout.{WithinLimits}
 use Rattle.sheet.specs.declared.Fault.{Fault}
 use Rattle.place_judgement.specs.Judgement.{judgeFault}
-use Rattle.place_judgement.proofs.Answers.{fault-told, refused, taken, known, laid, place, room, runs-told, short-told}
+use Rattle.place_judgement.proofs.Answers.{fault-told, refused, taken, known, laid, place, room, spare-told}
 use Rattle.place_judgement.proofs.judge_place.Statement.{statement}
 use Rattle.place_judgement.proofs.judge_place.Tie as tie
 
@@ -47,14 +49,7 @@ returns-2 c =
     let known : tie.After-judge-known = search in
     let is = known .judge-known .ensures in
     let else : tie.Else1 = search in
-    runs-told _ _ _ _ _ (told (search)) (else .if1 .left) _ _ (is .1 .0) (is .1 .1) _ (is .0) (search)
-
-returns-3 : tie.Need-returns-3
-returns-3 c =
-    let known : tie.After-judge-known = search in
-    let is = known .judge-known .ensures in
-    let else : tie.Else1 = search in
-    short-told _ _ _ _ _ (told (search)) (else .if1 .left) _ _ (is .1 .0) (is .1 .1) _ (is .0) (search)
+    spare-told _ _ _ _ _ (told (search)) (else .if1 .left) _ _ (is .1 .0) (is .1 .1) _ (toZ-ofZ w32 _ (record { sfits = known .judge-known .ok }) ∙ is .0)
 
 pub judge-place-spec : {M : Type 1} → statement M
 judge-place-spec =
@@ -69,7 +64,4 @@ judge-place-spec =
     judge-known-requires
     (λ c. search needs)
     (λ c. search needs)
-    returns-2
-    (λ c. search needs)
-    (λ c. search needs)
-    returns-3)
+    returns-2)

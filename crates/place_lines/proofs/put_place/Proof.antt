@@ -1,6 +1,6 @@
 -- `put_place`: the numbers that are told are those of the place's line, by `line-is`.
 use borrow.Author.Needs.{needs}
-use Rattle.lines.specs.MissingRow.{line-is}
+use Rattle.lines.specs.LeastRow.{line-is}
 use Rattle.place_lines.proofs.put_place.Statement.{statement}
 use Rattle.place_lines.proofs.put_place.Tie as tie
 

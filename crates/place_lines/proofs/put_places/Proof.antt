@@ -1,4 +1,4 @@
--- `put_places`: the loop has put the lines of the places below p, in at most 68 bytes each.
+-- `put_places`: the loop has put the lines of the places below p, in at most 67 bytes each.
 use Prim.Native.Nat.{_-_}
 use native.Mathlib.Omega.{arith}
 use borrow.Author.Needs.{needs}
@@ -11,10 +11,10 @@ use Rattle.place_lines.proofs.put_places.Statement.{statement}
 use Rattle.place_lines.proofs.put_places.Tie as tie
 
 abbrev Inv-loop : tie.InvT-loop
-Inv-loop s places missing row₀ at end₀ p₀ row end p = Putting row₀ row at (lineOf (netOf s) (planOf s)) placeRoom (placesOf s) p end
+Inv-loop s places least row₀ at end₀ p₀ row end p = Putting row₀ row at (lineOf (netOf s) (planOf s)) placeRoom (placesOf s) p end
 
 abbrev μ-loop : tie.MeasureT-loop
-μ-loop s places missing row₀ at end₀ p₀ row end p = places - p
+μ-loop s places least row₀ at end₀ p₀ row end p = places - p
 
 loop-holds : tie.Need-loop-holds Inv-loop μ-loop
 loop-holds c = each-start (omega arith)

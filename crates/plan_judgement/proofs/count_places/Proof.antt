@@ -6,17 +6,17 @@ use mathlib.Core.Path.{_≡_, refl, _∙_}
 use borrow.Author.Needs.{needs}
 use lib.ListN.{length}
 use Rattle.finite.specs.Filled.{Filled, filled-none, filled-more}
-use Rattle.place.specs.Place.{missingAt}
+use Rattle.plan_judgement.specs.Asked.{askedAt}
 use Rattle.plan_judgement.specs.First.{FirstTo, first-start}
 use Rattle.plan_judgement.proofs.count_places.Statement.{statement}
 use Rattle.plan_judgement.proofs.count_places.Tie as tie
 
 abbrev Inv-loop : tie.InvT-loop
-Inv-loop s l pred order amount₀ fed₀ row₀ first₀ p₀ p-end amount fed row first p =
-    (p ≤ l .places) × Filled (missingAt s) p row₀ row × FirstTo s p first × (length amount ≡ length amount₀)
+Inv-loop s l least pred order amount₀ fed₀ row₀ first₀ p₀ p-end amount fed row first p =
+    (p ≤ l .places) × Filled (askedAt least s) p row₀ row × FirstTo s p first × (length amount ≡ length amount₀)
 
 abbrev μ-loop : tie.MeasureT-loop
-μ-loop s l pred order amount₀ fed₀ row₀ first₀ p₀ p-end amount fed row first p = l .places - p
+μ-loop s l least pred order amount₀ fed₀ row₀ first₀ p₀ p-end amount fed row first p = l .places - p
 
 count-place-requires : tie.Need-count-place-requires Inv-loop μ-loop
 count-place-requires c κs =
@@ -34,7 +34,7 @@ loop-again c =
       omega arith,
       rw (done .count-place .ensures .0) (filled-more _ _ _ _ (omega arith) (at .loop .inv .1)),
       done .count-place .ensures .1,
-      done .count-place .kept .1 .1 .1 .1 .1 .0 ∙ at .loop .inv .3,
+      done .count-place .kept .1 .1 .1 .1 .1 .1 .0 ∙ at .loop .inv .3,
     )
 
 returns : tie.Need-returns Inv-loop μ-loop

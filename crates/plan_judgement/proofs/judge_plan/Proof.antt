@@ -23,8 +23,8 @@ told c =
 returns : tie.Need-returns
 returns c = refused _ _ _ (told (search)) (search) _ (omega arith) (omega arith)
 
-count-missing-requires : tie.Need-count-missing-requires
-count-missing-requires c κs =
+count-all-requires : tie.Need-count-all-requires
+count-all-requires c κs =
     let e = told (search) in
     let else : tie.Else1 = search in
     let none = else .if1 .left in
@@ -36,15 +36,15 @@ sum-up-requires : tie.Need-sum-up-requires
 sum-up-requires c κs =
     let e = told (search) in
     let else : tie.Else1 = search in
-    let counted : tie.After-count-missing = search in
-    (counts _ _ _ e (else .if1 .left) _ (counted .count-missing .ensures .0), in-row _ _ _ e (else .if1 .left) _ (counted .count-missing .ensures .0))
+    let counted : tie.After-count-all = search in
+    (counts _ _ _ e (else .if1 .left) _ (counted .count-all .ensures .0), in-row _ _ _ e (else .if1 .left) _ (counted .count-all .ensures .0))
 
 returns-2 : tie.Need-returns-2
 returns-2 c =
     let e = told (search) in
     let else : tie.Else1 = search in
-    let counted : tie.After-count-missing = search in
-    judged _ _ _ e (else .if1 .left) _ (counted .count-missing .ensures .0) (c .sum-up .result) (c .sum-up .ensures)
+    let counted : tie.After-count-all = search in
+    judged _ _ _ e (else .if1 .left) _ (counted .count-all .ensures .0) (c .sum-up .result) (c .sum-up .ensures)
 
 pub judge-plan-spec : {M : Type 1} → statement M
 judge-plan-spec =
@@ -53,7 +53,7 @@ judge-plan-spec =
     (λ c κs. search needs)
     (λ c κs. search needs)
     returns
-    count-missing-requires
+    count-all-requires
     sum-up-requires
     (λ c. search needs)
     returns-2)

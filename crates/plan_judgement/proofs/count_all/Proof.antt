@@ -1,10 +1,10 @@
--- `plan_judgement::count_missing` meets its contract: the working rows are long enough.
+-- `plan_judgement::count_all` meets its contract: the working rows are long enough.
 use Prim.Native.Nat.{_*_}
 use native.Mathlib.Omega.{arith}
 use borrow.Author.Needs.{needs}
 use Rattle.finite.specs.Row.{zeros-room}
-use Rattle.plan_judgement.proofs.count_missing.Statement.{statement}
-use Rattle.plan_judgement.proofs.count_missing.Tie as tie
+use Rattle.plan_judgement.proofs.count_all.Statement.{statement}
+use Rattle.plan_judgement.proofs.count_all.Tie as tie
 
 count-places-requires : tie.Need-count-places-requires
 count-places-requires c κs =
@@ -12,8 +12,8 @@ count-places-requires c κs =
     let few = s .pre .0 .laid .limited .events in
     (s .pre .0, (s .pre .1 .0, (s .pre .1 .1 .0, (zeros-room (s .args .l .events * 256) 65536 (omega arith), s .pre .1 .1 .1))))
 
-pub count-missing-spec : {M : Type 1} → statement M
-count-missing-spec =
+pub count-all-spec : {M : Type 1} → statement M
+count-all-spec =
     tie.close
     (tie.spec
     (λ c κs. search needs)
