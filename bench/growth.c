@@ -5,8 +5,6 @@
 
 #include <stdio.h>
 
-enum { MAX_SHEETS = 99 };
-
 // The medians at one size; counts sheets that aren't judged alike.
 static void at_size(unsigned places, unsigned events, unsigned pairs, unsigned sheets, double *time, double *over, unsigned *differ)
 {

@@ -1,22 +1,16 @@
-// The benchmark: ratios of the archive's time to its peers' for each kind of sheet, the bar, and the growth.
+// The benchmark: ratios of the archive's time to its peers' for each kind of sheet, of a listing's to the plan judgement's, the bars, and
+// the growth.
 #include "growth.h"
+#include "listing_table.h"
 #include "measure.h"
 
 #include <stdio.h>
 #include <stdlib.h>
 
-enum { MAX_SHEETS = 99 };
-
-static const char *const group_titles[] = {
-    "Sheets at the limits",
-    "Sheets at the limits, made to be slow",
-    "Sheets with as many places and events but few pairs, made to be slow",
-};
-enum { GROUPS = sizeof group_titles / sizeof *group_titles };
-
 struct summary {
     unsigned sheets, differ; // judged, and of these judged differently by different judges
     int missed[GROUPS];      // whether a kind of the group misses the bar
+    int listing_missed[GROUPS];
 };
 
 static void print_head(enum group group)
@@ -90,9 +84,11 @@ int main(int count, char **words)
             print_head(kinds[k].group);
         judge_kind(&kinds[k], sheets, &summary);
     }
+    print_listing(sheets, summary.listing_missed);
     summary.differ += print_growth(sheets < 5 ? sheets : 5);
 
     printf("\n%u sheets of these kinds, and those of the growth; judged differently: %u\n", summary.sheets, summary.differ);
     int missed = print_bar(&summary);
+    missed |= print_listing_bar(summary.listing_missed);
     return summary.differ > 0 || missed;
 }

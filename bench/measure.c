@@ -66,8 +66,17 @@ static void keep_best(double *best, double began, int turn)
         *best = time;
 }
 
+// Reads the plan of a sheet, and works out the least opening count of each place.
+static void read_plan(const struct sheet *sheet, struct plan *plan, uint32_t *least)
+{
+    if (plan_read(sheet->bytes, sheet->length, plan) != 0)
+        abort();
+    for (unsigned p = 0; p < plan->places; p++)
+        least[p] = independent_least(plan, p, NULL);
+}
+
 // Writes the opening counts for this number; returns the answer that the till server has to get.
-static uint32_t choose_openings(struct sheet *sheet, const uint32_t *least, unsigned places, unsigned number)
+static uint32_t write_openings(struct sheet *sheet, const uint32_t *least, unsigned places, unsigned number)
 {
     uint32_t opening[MAX_PLACES], answer = 0;
 
@@ -81,6 +90,15 @@ static uint32_t choose_openings(struct sheet *sheet, const uint32_t *least, unsi
     return answer;
 }
 
+void choose_openings(struct sheet *sheet, unsigned number)
+{
+    static struct plan plan;
+    uint32_t least[MAX_PLACES];
+
+    read_plan(sheet, &plan, least);
+    write_openings(sheet, least, plan.places, number);
+}
+
 struct times measure(struct sheet *sheet, unsigned number)
 {
     static struct plan plan;
@@ -88,11 +106,8 @@ struct times measure(struct sheet *sheet, unsigned number)
     struct times times = {.fastest = -1, .agree = 1};
     uint32_t least[MAX_PLACES], other[MAX_PLACES];
 
-    if (plan_read(sheet->bytes, sheet->length, &plan) != 0)
-        abort();
-    for (unsigned p = 0; p < plan.places; p++)
-        least[p] = independent_least(&plan, p, NULL);
-    uint32_t answer = choose_openings(sheet, least, plan.places, number);
+    read_plan(sheet, &plan, least);
+    uint32_t answer = write_openings(sheet, least, plan.places, number);
 
     for (int turn = 0; turn < TURNS; turn++) {
         double began = now();

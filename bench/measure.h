@@ -4,7 +4,7 @@
 
 #include "sheets.h"
 
-enum { LIBRARIES = 3 };
+enum { LIBRARIES = 3, MAX_SHEETS = 99 };
 
 struct library {
     const char *name;
@@ -22,8 +22,10 @@ struct times {
     int agree;                   // whether all counts and verdicts are the same
 };
 
-// Gives the sheet opening counts that are just enough, or at odd numbers just one too few at the last place that needs any, and
-// judges it with all. Each time is the best of a few; all take turns.
+// Gives the sheet opening counts that are just enough, or at odd numbers just one too few at the last place that needs any.
+void choose_openings(struct sheet *sheet, unsigned number);
+
+// Chooses opening counts as above, and judges the sheet with all. Each time is the best of a few; all take turns.
 struct times measure(struct sheet *sheet, unsigned number);
 
 // The archive's time over the fastest library's, or over the independent judge's where no library is installed.

@@ -165,6 +165,12 @@ int kind_is_workflow(const struct kind *kind)
     return kind->make == thin || kind->make == dense;
 }
 
+const char *const group_titles[GROUPS] = {
+    "Sheets at the limits",
+    "Sheets at the limits, made to be slow",
+    "Sheets with as many places and events but few pairs, made to be slow",
+};
+
 const struct kind kinds[] = {
     {"random order", AT_THE_LIMITS, SHUFFLED, full_random},
     {"narrow layers", AT_THE_LIMITS, SHUFFLED, narrow_layers},

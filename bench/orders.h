@@ -18,7 +18,8 @@ struct order {
 // Numbering of the events and the pairs in the sheet.
 enum numbering { SHUFFLED, AS_MADE, BACKWARDS };
 
-enum group { AT_THE_LIMITS, MADE_TO_BE_SLOW, FEW_PAIRS };
+enum group { AT_THE_LIMITS, MADE_TO_BE_SLOW, FEW_PAIRS, GROUPS };
+extern const char *const group_titles[GROUPS];
 
 struct kind {
     const char *name;
