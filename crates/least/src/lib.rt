@@ -31,7 +31,7 @@ fn total(row: &[u32; EVENTS], n: usize) -> u32
 
 // Settles a place whose gives stand in `free` and whose takes stand in `share`. Returns what the takers lack at last: the least opening
 // count, or less than it takes to pass `enough`, at which it may stop. So 0 asks for the least opening count itself, and the opening count
-// asks only for what is missing. All events are marked as spare at first; those that have nothing free are unmarked when they are met.
+// asks only for what is missing. All events are marked as sources at first; those that have nothing free are unmarked when they are met.
 pub fn settle_rows(
     pred: &[u32; ROWS],
     order: &[usize; EVENTS],
@@ -47,9 +47,9 @@ pub fn settle_rows(
     requires { ⌜ SomePlace n pred free share ⌝ }
     ensures { λ r. ⌜ Settles n pred amount fed free share givers enough r ⌝ }
 {
-    let mut spare = [4294967295u32; WORDS];
+    let mut sources = [4294967295u32; WORDS];
     put_words(fed, ROWS, 0);
-    draw_all(pred, order, amount, fed, free, share, &mut spare, n);
+    draw_all(pred, order, amount, fed, free, share, &mut sources, n);
     settle(pred, amount, fed, free, share, givers, enough, n);
     total(share, n)
 }

@@ -58,7 +58,7 @@ pub fn set_levels(
 }
 
 // Marks the giver u in its level's row if it has tokens free.
-pub fn mark_spare(free: &[u32; EVENTS], sets: &mut [u32; SETS], level: usize, u: Event)
+pub fn mark_source(free: &[u32; EVENTS], sets: &mut [u32; SETS], level: usize, u: Event)
     requires { ⌜ (level < mostEvents) × (u .0 < mostEvents) ⌝ }
 {
     let i = u.0;
@@ -97,7 +97,7 @@ fn mark_giver(
         return;
     }
     marks::mark(sets, EVENTS + level, i);
-    mark_spare(free, sets, level, u);
+    mark_source(free, sets, level, u);
 }
 
 // Marks the givers that were met, by levels.

@@ -15,7 +15,7 @@ use last_mark::Found;
 use levels::SETS;
 use levels::lowest;
 use levels::mark_givers;
-use levels::mark_spare;
+use levels::mark_source;
 use levels::mark_takers;
 use levels::set_levels;
 use levels::unmark_spent;
@@ -153,7 +153,7 @@ fn pull_next(
         lower + 1,
         n,
     );
-    mark_spare(free, sets, lower, v);
+    mark_source(free, sets, lower, v);
     true
 }
 
@@ -230,9 +230,9 @@ fn draw_lowest(
     requires { ⌜ end ≤ mostEvents ⌝ }
     ensures { λ _. ⌜ Moves n pred amount fed free share ⌝ }
 {
-    let mut spare = lowest(sets);
+    let mut sources = lowest(sets);
     for at in 0..end {
-        draw_at(pred, queue, amount, fed, free, share, &mut spare, at, n);
+        draw_at(pred, queue, amount, fed, free, share, &mut sources, at, n);
     }
 }
 

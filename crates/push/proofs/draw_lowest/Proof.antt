@@ -8,11 +8,11 @@ use Rattle.push.proofs.draw_lowest.Statement.{statement}
 use Rattle.push.proofs.draw_lowest.Tie as tie
 
 abbrev Inv-loop : tie.InvT-loop
-Inv-loop pred queue sets amount₀ fed₀ free₀ share₀ end n spare₀ at₀ amount fed free share spare at =
+Inv-loop pred queue sets amount₀ fed₀ free₀ share₀ end n sources₀ at₀ amount fed free share sources at =
     Moved n pred (rows amount₀ fed₀ free₀ share₀) (rows amount fed free share) × (at ≤ end)
 
 abbrev μ-loop : tie.MeasureT-loop
-μ-loop pred queue sets amount₀ fed₀ free₀ share₀ end n spare₀ at₀ amount fed free share spare at = end - at
+μ-loop pred queue sets amount₀ fed₀ free₀ share₀ end n sources₀ at₀ amount fed free share sources at = end - at
 
 pub draw-lowest-spec : {M : Type 1} → statement M
 draw-lowest-spec =

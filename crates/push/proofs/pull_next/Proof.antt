@@ -19,8 +19,8 @@ pull-requires c κs =
     let event = below (search) in
     (search, (search, (search, search)))
 
-mark-spare-requires : tie.Need-mark-spare-requires
-mark-spare-requires c κs =
+mark-source-requires : tie.Need-mark-source-requires
+mark-source-requires c κs =
     let start : tie.Start = search in
     let event = below (search) in
     (omega arith, search)
@@ -38,6 +38,6 @@ pull-next-spec =
     unmark-requires
     (λ c. search needs)
     pull-requires
-    mark-spare-requires
+    mark-source-requires
     (λ c. search needs)
     (λ c. search needs))
