@@ -46,7 +46,7 @@ module _ (s : List ℕ) (p : ℕ) (flow marks : List ℕ) where
     pub refused : ¬ (e .fault .number ≡ 0) → (f : Fault) → f .number ≡ e .fault .number → f .item ≡ e .fault .item → Answered (Refused f) flow marks
     unfolding judgementSays marksAfter
     refused there f number item = (
-      told-refusal (spareAt s p) (number ∙ number-is) (item ∙ ap (λ (g : Fault). g .item) (told .told)) (λ z. there (number-is ∙ z)),
+      told-refusal _ (number ∙ number-is) (item ∙ ap (λ (g : Fault). g .item) (told .told)) (λ z. there (number-is ∙ z)),
       (
         at-fault (judgeFault s p flow marks .number) _ marks (λ z. there (number-is ∙ z)),
         record { fault = λ _. refl; judged = λ z. absurd (there (number-is ∙ z)) },

@@ -42,7 +42,7 @@ judge-known-requires c κs =
     let none = else .if1 .left in
     let seen : tie.After-examine = search in
     let order = seen .examine .ensures .1 .1 (ap (λ (f : Fault). f .number) (seen .examine .ensures .0) ∙ taken _ _ _ _ _ e none) .1 in
-    (known _ _ _ _ _ e none, (laid _ _ _ _ _ e none, (place _ _ _ _ _ e none, (order, room _ _ _ _ _ e none))))
+    (known _ _ _ _ _ e none, (laid _ _ _ _ _ e none, (omega (arith, place _ _ _ _ _ e none), (order, room _ _ _ _ _ e none))))
 
 returns-2 : tie.Need-returns-2
 returns-2 c =
