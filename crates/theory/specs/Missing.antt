@@ -61,6 +61,3 @@ module _ (N : Net) (P : Plan) (p : ℕ) where
     least-most =
         let w = least-attained N P p S in
         omega (arith, w .2, over-all (P .events) (reached P (w .0)) (takenBy N P p))
-
-    pub missing-most : missing N P p ≤ sum (P .events) (takenBy N P p)
-    missing-most = omega (arith, least-most, missing-opening)

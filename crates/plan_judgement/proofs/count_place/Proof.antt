@@ -1,10 +1,9 @@
 -- `plan_judgement::count_place` meets its contract: a place after a short one isn't the first; else it is, if it is short.
 use native.Mathlib.Omega.{arith}
 use mathlib.Core.Path.{refl, ap, _∙_}
-use denote.Ref.{now}
 use borrow.Author.Needs.{needs}
 use lib.ListN.{set}
-use Rattle.plan_judgement.specs.Asked.{counted}
+use Rattle.plan_judgement.specs.Asked.{asked}
 use Rattle.plan_judgement.specs.First.{first-kept, first-here}
 use Rattle.plan_judgement.proofs.count_place.Statement.{statement}
 use Rattle.plan_judgement.proofs.count_place.Tie as tie
@@ -28,7 +27,7 @@ returns c =
     let s : tie.Start = search in
     let here : tie.After-above = search in
     let told : tie.After-either2 = search in
-    let is = counted (s .args .least) _ _ _ _ _ _ _ _ _ _ _ (opened here .opening .ensures) (stopped here .either .ensures) (settled here .settle-place .ensures) (here .above .ensures) in
+    let is = asked (s .args .least) _ _ _ _ _ _ _ _ _ _ _ (opened here .opening .ensures) (stopped here .either .ensures) (settled here .settle-place .ensures) (here .above .ensures) in
     (ap (set (s .args .row .now) (s .args .p .0)) (told .either2 .ensures ∙ is .told), first-kept _ _ _ (s .pre .1 .1 .1 .1 .1) (search))
 
 returns-2 : tie.Need-returns-2
@@ -36,7 +35,7 @@ returns-2 c =
     let s : tie.Start = search in
     let here : tie.After-above = search in
     let told : tie.After-either2 = search in
-    let is = counted (s .args .least) _ _ _ _ _ _ _ _ _ _ _ (opened here .opening .ensures) (stopped here .either .ensures) (settled here .settle-place .ensures) (here .above .ensures) in
+    let is = asked (s .args .least) _ _ _ _ _ _ _ _ _ _ _ (opened here .opening .ensures) (stopped here .either .ensures) (settled here .settle-place .ensures) (here .above .ensures) in
     let judged = is .shown .1 in
     (ap (set (s .args .row .now) (s .args .p .0)) (told .either2 .ensures ∙ is .told), first-here _ _ _ (s .pre .1 .1 .1 .1 .1) (search) _ _ (judged .count) refl (judged .set))
 
