@@ -1,6 +1,6 @@
 -- How many numbers below a bound are in a set.
 use Prim.Native.Nat.{ℕ, zero, suc, _+_, _≤_, _<_}
-use native.Mathlib.Nat.{add-comm}
+use native.Mathlib.Nat.{add-comm, eq-or-lt-of-le, le-step, lt-suc-self}
 use native.Mathlib.Omega.{arith}
 use mathlib.Core.Bool.{Bool}
 use mathlib.Core.Logic.{⊎-elim}
@@ -18,7 +18,7 @@ pub count-none : (n : ℕ) (S : Set) → ((v : ℕ) → T (S v) → ⊥) → cou
 unfolding count over
 count-none n S none = sum-zero n (λ v. on (S v) 1) (λ v l. on-no (S v) 1 (none v))
 
-ones : (n : ℕ) → sum n (λ v. 1) ≡ n
+pub ones : (n : ℕ) → sum n (λ v. 1) ≡ n
 unfolding sum
 ones zero = refl
 ones (suc n) = omega (arith, ones n)
@@ -50,3 +50,22 @@ count-within (suc m) n S below =
     (λ l. omega (arith, count-le (suc m) S, ltb→lt m n l))
     (λ l. omega (arith, count-within m n S below, on-no (S m) 1 (λ t. omega (arith, below m t, nltb→le m n l))))
     (decide (ltb m n))
+
+pub count-ext : (n : ℕ) (S R : Set) → ((v : ℕ) → v < n → S v ≡ R v) → count n S ≡ count n R
+unfolding count over
+count-ext n S R h = sum-ext n _ _ (λ v l. ap (λ (b : Bool). on b 1) (h v l))
+
+-- no member from n on
+pub count-below : (m n : ℕ) (S : Set) → n ≤ m → ((v : ℕ) → v < m → T (S v) → v < n) → count m S ≡ count n S
+unfolding count over sum
+count-below zero n S l below = let none : zero ≡ n = omega arith in ap (λ (k : ℕ). count k S) none
+count-below (suc m) n S l below =
+    ⊎-elim
+    (λ e. ap (λ (k : ℕ). count k S) (sym e))
+    (λ less.
+    omega (
+      arith,
+      count-below m n S (omega (arith, less)) (λ v j. below v (le-step j)),
+      on-no (S m) 1 (λ t. omega (arith, below m (lt-suc-self m) t, less)),
+    ))
+    (eq-or-lt-of-le l)

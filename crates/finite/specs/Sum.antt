@@ -1,6 +1,6 @@
 -- Finite sums: of the numbers f i with i below a bound, of those at members of a set, and of those whose index has a given end.
 use Prim.Native.Nat.{ℕ, zero, suc, _+_, _*_, _≤_, _<_}
-use native.Mathlib.Nat.{le-step, lt-suc-self, not-suc-le-zero, le-refl, add-zero, zero-add, lt-irrefl, lt-of-lt-of-le, eq-or-lt-of-le, mul-suc}
+use native.Mathlib.Nat.{le-step, lt-suc-self, not-suc-le-zero, le-refl, add-zero, add-suc, zero-add, lt-irrefl, lt-of-lt-of-le, eq-or-lt-of-le, mul-suc}
 use mathlib.Core.List.{List}
 use mathlib.Core.Logic.{⊎-elim}
 use native.Mathlib.Numerals.{add-one}
@@ -166,6 +166,18 @@ pub sum-swap : (n m : ℕ) (f : ℕ → ℕ → ℕ) → sum n (λ i. sum m (λ 
 unfolding sum
 sum-swap zero m f = sym (sum-zero m (λ j. 0) (λ j l. refl))
 sum-swap (suc n) m f = ap (λ (z : ℕ). z + sum m (λ j. f n j)) (sum-swap n m f) ∙ sym (sum-add m (λ j. sum n (λ i. f i j)) (λ j. f n j))
+
+-- the first a terms and the b after them
+pub sum-parts : (a b : ℕ) (f : ℕ → ℕ) → sum (a + b) f ≡ sum a f + sum b (λ j. f (a + j))
+unfolding sum
+sum-parts a zero f = omega (arith, ap (λ (n : ℕ). sum n f) (add-zero a))
+sum-parts a (suc b) f = omega (arith, ap (λ (n : ℕ). sum n f) (add-suc a b), sum-parts a b f)
+
+-- the first term and the n after it
+pub sum-first : (n : ℕ) (f : ℕ → ℕ) → sum (suc n) f ≡ f 0 + sum n (λ i. f (suc i))
+unfolding sum
+sum-first zero f = omega arith
+sum-first (suc n) f = omega (arith, sum-first n f)
 
 -- equal sums of terms none of which is above its partner: equal terms
 pub sum-tight : (n : ℕ) (f g : ℕ → ℕ) → ((i : ℕ) → i < n → f i ≤ g i) → sum n g ≤ sum n f → (k : ℕ) → k < n → f k ≡ g k

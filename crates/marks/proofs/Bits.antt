@@ -21,7 +21,7 @@ or-digit a b = omega (arith, or-step a b)
 and-digit : (a b : ℕ) → bitAnd a b % 2 ≡ min (a % 2) (b % 2)
 and-digit a b = omega (arith, and-step a b)
 
-below-two : (F : ℕ → Type 0) → F 0 → F 1 → (x : ℕ) → x < 2 → F x
+pub below-two : (F : ℕ → Type 0) → F 0 → F 1 → (x : ℕ) → x < 2 → F x
 below-two F f g zero h = f
 below-two F f g (suc zero) h = g
 below-two F f g (suc (suc x)) h = absurd (not-suc-le-zero (le-of-suc-le-suc (le-of-suc-le-suc h)))
@@ -51,11 +51,11 @@ bit-and a b k =
     rw (and-shr a b k, and-digit (a / 2 ^ k) (b / 2 ^ k)) (min-test (a / 2 ^ k % 2) (omega arith) (b / 2 ^ k % 2) (omega arith))
 
 -- the bits from the second on are those of the half
-bit-suc : (w k : ℕ) → bit w (suc k) ≡ bit (w / 2) k
+pub bit-suc : (w k : ℕ) → bit w (suc k) ≡ bit (w / 2) k
 unfolding bit
 bit-suc w k = ap (λ (x : ℕ). eqb (x % 2) 1) (ap (λ (e : ℕ). w / 2 ^ e) (sym (one-add k)) ∙ sym (shr-shr w 1 k))
 
-bit-first : (w : ℕ) → bit w 0 ≡ eqb (w % 2) 1
+pub bit-first : (w : ℕ) → bit w 0 ≡ eqb (w % 2) 1
 unfolding bit
 bit-first w = rw (div-one w)
 
