@@ -10,9 +10,10 @@ use mathlib.Core.Path.{_≡_, sym, ap, ap₂, subst, _∙_}
 use lib.Dec.{T, eqb, ltb, ltb→lt, nltb→le, not-T, T-not}
 use lib.ListN.{replicate}
 use Rattle.ids.specs.Limits.{mostEvents}
-use Rattle.finite.specs.Bounded.{any, any-yes, yes-any, decide, same}
+use Rattle.finite.specs.Bounded.{any, any-yes, yes-any, decide}
 use Rattle.plan.specs.Net.{Plan}
 use Rattle.plan.specs.Order.{Before, before, skeleton}
+use Rattle.plan.specs.Closure.{says-before}
 use Rattle.marks.specs.Marks.{marked, meeting, none-marked, MarkAdded}
 use Rattle.closure.specs.Between.{meeting-between}
 use Rattle.closure.specs.ClosedRows.{cyclic, closed-only, ClosedRows}
@@ -150,11 +151,11 @@ module _ (P : Plan) (named : Named P) where
           none (some .0) (after .marks (some .0) (some .0) (some .1) (some .1) .0 (some .2))),
     )
 
-    -- That nothing is marked in common says that a pair is a skeleton pair. The test of "before" is taken as right.
-    pub skeleton-rows : (pred : List ℕ) → Predecessors P pred → P .events ≤ mostEvents → ((u v : ℕ) → T (before P u v) ↔ Before P u v)
-        → (i : ℕ) → i < P .pairs → not (meeting succ (P .earlier i) pred (P .later i)) ≡ skeleton P i
+    -- That nothing is marked in common says that a pair is a skeleton pair.
+    pub skeleton-rows : (pred : List ℕ) → Predecessors P pred → P .events ≤ mostEvents → (i : ℕ) → i < P .pairs
+        → not (meeting succ (P .earlier i) pred (P .later i)) ≡ skeleton P i
     unfolding skeleton
-    skeleton-rows pred ahead few test i l =
+    skeleton-rows pred ahead few i l =
         let a = P .earlier i in
         let b = P .later i in
         let ha = named .earlier i l in
@@ -169,16 +170,6 @@ module _ (P : Plan) (named : Named P) where
         a
         b
         few
-        (λ w h.
-        same
-        (marked succ a w)
-        (before P a w)
-        (λ t. test a w .1 (after .marks a w ha h .0 t))
-        (λ t. after .marks a w ha h .1 (test a w .0 t)))
-        (λ w h.
-        same
-        (marked pred b w)
-        (before P w b)
-        (λ t. test w b .1 (ahead .marks b w hb h .0 t))
-        (λ t. ahead .marks b w hb h .1 (test w b .0 t)))
+        (λ w h. says-before P (marked succ a w) a w (after .marks a w ha h))
+        (λ w h. says-before P (marked pred b w) w b (ahead .marks b w hb h))
         (λ w h t. after .only a w h t))

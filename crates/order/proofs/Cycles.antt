@@ -5,6 +5,7 @@ use mathlib.Core.List.{List}
 use mathlib.Core.Option.{none}
 use mathlib.Core.Path.{_≡_, sym, ap, _∙_}
 use Rattle.finite.specs.Bounded.{any-ext}
+use Rattle.plan.specs.Closure.{says-before}
 use Rattle.marks.specs.Marks.{marked}
 use Rattle.closure.specs.ClosedRows.{cyclic as cyclicRows, ClosedRows}
 use Rattle.closure.specs.Ordered.{Named}
@@ -17,7 +18,6 @@ use Rattle.layout.specs.declared.Layout.{Layout}
 use Rattle.sheet.specs.Faultless.{ends}
 use Rattle.sheet.specs.Told.{faultAt, noFault, tell, plain, orElse, else-first, else-next}
 use Rattle.sheet.specs.declared.Fault.{Fault}
-use Rattle.order.specs.Laws.{mark-before}
 use Rattle.order.specs.Rows.{PairsMarked, OrderRows}
 
 module _ (s : List ℕ) (l : Layout) (known : LaidBy s l) (all : noEvent s ≡ none) where
@@ -30,7 +30,7 @@ module _ (s : List ℕ) (l : Layout) (known : LaidBy s l) (all : noEvent s ≡ n
 
     own-marked : (v : ℕ) → v < eventsOf s → marked succ₁ v v ≡ cycleAt s v
     unfolding cycleAt
-    own-marked v h = mark-before (planOf s) (marked succ₁ v v) v v (after-rows .marks v v h h)
+    own-marked v h = says-before (planOf s) (marked succ₁ v v) v v (after-rows .marks v v h h)
 
     -- some event is marked in its own row exactly if the order has a cycle
     pub cycle-found : cyclicRows succ₁ (l .events) ≡ cyclic s

@@ -1,14 +1,10 @@
 -- What the rows of a faultless sheet's order say: which event is before which, and which pairs are skeleton pairs.
 use Prim.Native.Nat.{ℕ, _<_}
-use mathlib.Core.Bool.{Bool, not}
+use mathlib.Core.Bool.{not}
 use mathlib.Core.List.{List}
-use mathlib.Core.Logic.{_↔_}
 use mathlib.Core.Path.{_≡_}
-use lib.Dec.{T}
-use Rattle.finite.specs.Bounded.{same}
-use Rattle.plan.specs.Net.{Plan}
-use Rattle.plan.specs.Order.{Before, before, skeleton}
-use Rattle.plan.specs.Closure.{before-test}
+use Rattle.plan.specs.Order.{before, skeleton}
+use Rattle.plan.specs.Closure.{says-before}
 use Rattle.marks.specs.Marks.{marked, meeting}
 use Rattle.closure.specs.Ordered.{Named}
 use Rattle.closure.specs.PlanRows.{skeleton-rows}
@@ -17,22 +13,16 @@ use Rattle.sheet.specs.Items.{earlierAt, laterAt, planOf}
 use Rattle.sheet.specs.Faultless.{Faultless}
 use Rattle.order.specs.Rows.{OrderRows}
 
--- a mark that says what is before is the test of it
-pub mark-before : (P : Plan) (x : Bool) (u v : ℕ) → T x ↔ Before P u v → x ≡ before P u v
-mark-before P x u v says =
-    same x (before P u v) (λ t. before-test P u v .1 (says .0 t)) (λ t. says .1 (before-test P u v .0 t))
-
 module _ (s : List ℕ) (known : Faultless s) where
   pub named : Named (planOf s)
   named = record { earlier = known .earlier; later = known .later }
 
   module _ (succ pred : List ℕ) (rows : OrderRows (planOf s) succ pred) where
     pub after-marked : (u v : ℕ) → u < eventsOf s → v < eventsOf s → marked succ u v ≡ before (planOf s) u v
-    after-marked u v hu hv = mark-before (planOf s) (marked succ u v) u v (rows .after .marks u v hu hv)
+    after-marked u v hu hv = says-before (planOf s) (marked succ u v) u v (rows .after .marks u v hu hv)
 
     pub ahead-marked : (u v : ℕ) → u < eventsOf s → v < eventsOf s → marked pred v u ≡ before (planOf s) u v
-    ahead-marked u v hu hv = mark-before (planOf s) (marked pred v u) u v (rows .ahead .marks v u hv hu)
+    ahead-marked u v hu hv = says-before (planOf s) (marked pred v u) u v (rows .ahead .marks v u hv hu)
 
     pub skeleton-marked : (i : ℕ) → i < pairsOf s → not (meeting succ (earlierAt s i) pred (laterAt s i)) ≡ skeleton (planOf s) i
-    skeleton-marked =
-        skeleton-rows (planOf s) named succ (rows .after) pred (rows .ahead) (known .laid .limited .events) (before-test (planOf s))
+    skeleton-marked = skeleton-rows (planOf s) named succ (rows .after) pred (rows .ahead) (known .laid .limited .events)

@@ -1,12 +1,12 @@
 -- The test of "before" passes exactly if one event is before the other, in every plan.
 use Prim.Native.Nat.{ℕ, zero, suc, _≤_, _<_}
 use native.Mathlib.Nat.{le-refl, le-of-lt, not-suc-le-zero}
-use mathlib.Core.Bool.{_||_}
+use mathlib.Core.Bool.{Bool, _||_}
 use mathlib.Core.Logic.{_⊎_, inl, inr, ⊎-elim, _↔_}
 use mathlib.Core.Path.{_≡_, refl, sym, subst}
 use lib.Dec.{T, eqb, eqb→eq, eqb-refl}
 use mir.Facts.{and-yes, yes-and, or-yes}
-use Rattle.finite.specs.Bounded.{yes-or-left, yes-or-right, below-suc}
+use Rattle.finite.specs.Bounded.{yes-or-left, yes-or-right, below-suc, same}
 use Rattle.plan.specs.Net.{Plan}
 use Rattle.plan.specs.Order.{Before, pair, chain, before, beforeBy}
 
@@ -116,3 +116,7 @@ module _ (P : Plan) where
   pub before-test : (u v : ℕ) → T (before P u v) ↔ Before P u v
   unfolding before
   before-test u v = (sound (P .pairs) (le-refl (P .pairs)) u v, λ b. complete b)
+
+  -- Whatever else says what is before is the same test.
+  pub says-before : (x : Bool) (u v : ℕ) → T x ↔ Before P u v → x ≡ before P u v
+  says-before x u v says = same x (before P u v) (λ t. before-test u v .1 (says .0 t)) (λ t. says .1 (before-test u v .0 t))
