@@ -136,20 +136,30 @@ def scattered(draw, n):
 SHAPES = (chain, antichain, n_shape, layers, chains, tree, scattered)
 
 
+def without_tokens(n, pairs):
+    """A plan of n events without a place, for its order alone."""
+    return Plan((), [((), ())], [0] * n, pairs)
+
+
 def implied(n, pairs):
     """Pairs that the others imply."""
-    before = Plan((), [((), ())], [0] * n, pairs).is_before
-    return [(a, b) for a in range(n) for b in range(n) if before(a, b) and (a, b) not in pairs]
+    before, given = without_tokens(n, pairs).is_before, set(pairs)
+    return [(a, b) for a in range(n) for b in range(n) if before(a, b) and (a, b) not in given]
+
+
+def renamed(draw, n, pairs):
+    """The same order with the events numbered and the pairs given at random."""
+    names = draw.sample(range(n), n)
+    pairs = [(names[a], names[b]) for a, b in pairs]
+    draw.shuffle(pairs)
+    return pairs
 
 
 def random_pairs(draw, n):
     pairs = draw.choice(SHAPES)(draw, n)
     more = implied(n, pairs)
     pairs += draw.sample(more, draw.randrange(len(more) + 1) if draw.random() < 0.5 else 0)
-    names = draw.sample(range(n), n)
-    pairs = [(names[a], names[b]) for a, b in pairs]
-    draw.shuffle(pairs)
-    return pairs
+    return renamed(draw, n, pairs)
 
 
 def random_plan(draw, most_events=8, most_places=4):

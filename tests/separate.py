@@ -1,5 +1,5 @@
-"""A judge of sheets that shares nothing with the code under test: the definitions of document 01, the faults with document 02's A2 and the
-spare count of its A3, read off literally.
+"""A judge of sheets that shares nothing with the code under test: the definitions of document 01, the faults with document 02's A2, the
+spare count of its A3 and the free count of its A6, read off literally.
 
 It walks all done sets of a plan, so it is for plans of a few events. `by_greatest_flow` is a second way to a place's spare and missing
 counts and smallest done set, for plans of any size; tests/random_plans holds the two against each other. What it finds of a larger plan
@@ -144,8 +144,9 @@ class Plan:
 
     @property
     def free(self):
-        given = {frozenset(pair) for pair in self.pairs}
-        return self.events * (self.events - 1) // 2 - len(given)
+        """How many unordered pairs of two events are free of each other: neither is before the other."""
+        unordered = ((a, b) for b in range(self.events) for a in range(b))
+        return sum(not self.is_before(a, b) and not self.is_before(b, a) for a, b in unordered)
 
     # all done sets
 

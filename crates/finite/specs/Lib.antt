@@ -2,6 +2,7 @@ pub mod Bounded
 pub mod Count
 pub mod Filled
 pub mod First
+pub mod Pairs
 pub mod Row
 pub mod Search
 pub mod Subset

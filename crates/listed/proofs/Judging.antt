@@ -1,5 +1,5 @@
 -- What the counts of a sheet's places say of its listing.
-use Prim.Native.Nat.{ℕ, zero, suc, _+_, _*_, _-_, _≤_, _<_}
+use Prim.Native.Nat.{ℕ, zero, suc, _-_, _<_}
 use native.Mathlib.Omega.{arith}
 use mathlib.Core.List.{List, _++_}
 use mathlib.Core.Option.{Option, none, some}
@@ -7,7 +7,7 @@ use mathlib.Core.Path.{_≡_, refl, sym, ap, _∙_}
 use lib.ListN.{getD}
 use Rattle.finite.specs.Filled.{Filled}
 use Rattle.plan.specs.Order.{freeCount}
-use Rattle.sheet.specs.Table.{placesOf, eventsOf, pairsOf}
+use Rattle.sheet.specs.Table.{placesOf, eventsOf}
 use Rattle.sheet.specs.Items.{openingAt, netOf, planOf}
 use Rattle.sheet.specs.Faults.{faultOf}
 use Rattle.sheet.specs.Faultless.{Faultless, sound}
@@ -24,7 +24,8 @@ use Rattle.plan_judgement.specs.declared.First.{First}
 use Rattle.summary.specs.declared.Totals.{Totals}
 use Rattle.plan_judgement.specs.First.{FirstTo}
 use Rattle.plan_judgement.specs.CountsInRow.{small-counts, row-values}
-use Rattle.counts.specs.Free.{free-pairs}
+use Rattle.closure.specs.PlanRows.{Predecessors}
+use Rattle.free_pairs.specs.FreeRows.{OrderIn}
 use Rattle.lines.specs.Listing.{planLine, totalsLine, each, lastLine, shortLine, lineOf, countLines, linesOf, refusedLine, textOf, listingOf}
 use Rattle.lines.specs.LeastRow.{LeastRow}
 
@@ -62,20 +63,14 @@ last-by s f (Short p m) (some q) first says number =
     rw (same, first .set (p .0) (says .0 .0) (says .0 .1))
 
 module _ (s : List ℕ) (known : Faultless s) (l : Layout) (is : LayoutOf s l) where
-  free-of : 2 * (freeCount (planOf s) + pairsOf s) + eventsOf s ≡ eventsOf s * eventsOf s
-  free-of = free-pairs (planOf s) (sound s known) (known .once)
+  -- the order of the sheet's plan is in the row that its examination has filled
+  pub order-in : (pred : List ℕ) → Predecessors (planOf s) pred → OrderIn (planOf s) pred (l .events)
+  order-in pred rows = record { sound = sound s known; events = is .events; before = rows }
 
-  -- no two events have more than one pair
-  pub pairs-fit : 2 * l .pairs + l .events ≤ l .events * l .events
-  pairs-fit = omega (arith, free-of, is .pairs, is .events, ap (λ (n : ℕ). n * n) (is .events))
-
-  pub counts-are : (r short total : ℕ) → 2 * (r + l .pairs) + l .events ≡ l .events * l .events → short ≡ shortPlaces (missingAt s) (placesOf s)
-      → total ≡ totalMissing (missingAt s) (placesOf s)
+  pub counts-are : (r short total : ℕ) → r ≡ freeCount (planOf s) → short ≡ shortPlaces (missingAt s) (placesOf s) → total ≡ totalMissing (missingAt s) (placesOf s)
       → countLines (netOf s) (planOf s) ≡ planLine (l .events) (l .pairs) r ++ each (placesOf s) (lineOf (netOf s) (planOf s)) ++ totalsLine short total
   unfolding countLines
-  counts-are r short total f h t =
-      let free : r ≡ freeCount (planOf s) = omega (arith, free-of, is .pairs, is .events, ap (λ (n : ℕ). n * n) (is .events)) in
-      rw (is .events, is .pairs, free, h, t)
+  counts-are r short total free h t = rw (is .events, is .pairs, free, h, t)
 
   module _ (old least : List ℕ) (counted : Filled (leastAt s) (l .places) old least) where
     pub least-row : LeastRow s least

@@ -16,8 +16,8 @@ ghost use Rattle.sheet.specs.Table.{placesOf};
 ghost use Rattle.summary.specs.Summary.{totalMissing, shortPlaces};
 ghost use Rattle.text.specs.Put.{Put};
 ghost use Rattle.listed.specs.Listed.{says, listSays, rowAfter};
-use counts::free_count;
 use fault::examine;
+use free_pairs::free_count;
 use ids::PLACES;
 use ids::ROWS;
 use last_line::put_verdict;
@@ -39,10 +39,11 @@ pub enum Listed {
     Length(usize),
 }
 
-// The lines that tell counts, with the least opening counts in a row and what the missing ones come to.
+// The lines that tell counts, with the order and the least opening counts in rows and what the missing ones come to.
 fn put_counts(
     s: &[u8],
     l: Layout,
+    pred: &[u32; ROWS],
     least: &[u32; PLACES],
     short: u32,
     total: u32,
@@ -50,13 +51,14 @@ fn put_counts(
 ) -> usize
     requires { ⌜ Faultless (now s) ⌝ }
     requires { ⌜ LayoutOf (now s) l ⌝ }
+    requires { ⌜ Predecessors (planOf (now s)) (now pred) ⌝ }
     requires { ⌜ LeastRow (now s) (now least) ⌝ }
     requires { ⌜ short ≡ shortPlaces (missingAt (now s)) (placesOf (now s)) ⌝ }
     requires { ⌜ total ≡ totalMissing (missingAt (now s)) (placesOf (now s)) ⌝ }
     requires { ⌜ listingRoom ≤ length (now row) ⌝ }
     ensures { λ r. ⌜ Put (was row) (is row) 0 (countLines (netOf (was s)) (planOf (was s))) r × (r ≤ countsRoom) ⌝ }
 {
-    let free = free_count(l.events, l.pairs);
+    let free = free_count(pred, l.events);
     let a = put_plan(row, 0, l.events as u32, l.pairs as u32, free);
     let b = put_places(s, l.places, least, row, a);
     put_totals(row, b, short, total)
@@ -75,7 +77,7 @@ fn put_lines(s: &[u8], l: Layout, pred: &[u32; ROWS], row: &mut [u8]) -> usize
     let first = count_all(s, l, true, pred, &mut least);
     above_openings(s, l, &least, &mut missing);
     let totals = sum_up(&missing, l.places);
-    let end = put_counts(s, l, &least, totals.short, totals.total, row);
+    let end = put_counts(s, l, pred, &least, totals.short, totals.total, row);
     let v = totals.verdict;
     let done = first.done;
     put_verdict(v, &done, l.events, row, end)

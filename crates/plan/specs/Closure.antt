@@ -1,14 +1,14 @@
--- The test of "before" passes exactly if one event is before the other, in every plan.
+-- The test of "before" passes exactly if one event is before the other, and that of independence exactly if two are independent, in every plan.
 use Prim.Native.Nat.{ℕ, zero, suc, _≤_, _<_}
 use native.Mathlib.Nat.{le-refl, le-of-lt, not-suc-le-zero}
-use mathlib.Core.Bool.{Bool, _||_}
+use mathlib.Core.Bool.{Bool, not, _&&_, _||_}
 use mathlib.Core.Logic.{_⊎_, inl, inr, ⊎-elim, _↔_}
 use mathlib.Core.Path.{_≡_, refl, sym, subst}
-use lib.Dec.{T, eqb, eqb→eq, eqb-refl}
-use mir.Facts.{and-yes, yes-and, or-yes}
+use lib.Dec.{T, T-not, not-T, eqb, eqb→eq, eqb-refl}
+use mir.Facts.{and-yes, yes-and, or-yes, eqb-no}
 use Rattle.finite.specs.Bounded.{yes-or-left, yes-or-right, below-suc, same}
 use Rattle.plan.specs.Net.{Plan}
-use Rattle.plan.specs.Order.{Before, pair, chain, before, beforeBy}
+use Rattle.plan.specs.Order.{Before, pair, chain, before, beforeBy, Independent, independent}
 
 module _ (P : Plan) where
   -- the pair k joins u to v: u reaches its earlier end and its later end reaches v, by the pairs below k
@@ -120,3 +120,29 @@ module _ (P : Plan) where
   -- Whatever else says what is before is the same test.
   pub says-before : (x : Bool) (u v : ℕ) → T x ↔ Before P u v → x ≡ before P u v
   says-before x u v says = same x (before P u v) (λ t. before-test u v .1 (says .0 t)) (λ t. says .1 (before-test u v .0 t))
+
+  -- The test of independence passes exactly if two events are independent.
+  pub independent-test : (u v : ℕ) → T (independent P u v) ↔ Independent P u v
+  unfolding independent
+  independent-test u v =
+      let A : Bool = not (before P u v) in
+      let B : Bool = not (before P v u) in (
+        λ t.
+            let h = and-yes (not (eqb u v)) (A && B) t in
+            let k = and-yes A B (h .1) in
+            record {
+              different = eqb-no (h .0);
+              not-before = λ b. T-not (before P u v) (k .0) (before-test u v .1 b);
+              not-after = λ b. T-not (before P v u) (k .1) (before-test v u .1 b);
+            },
+        λ i.
+            yes-and
+            (not (eqb u v))
+            (A && B)
+            (not-T (eqb u v) (λ e. i .different (eqb→eq u v e)))
+            (yes-and
+            A
+            B
+            (not-T (before P u v) (λ b. i .not-before (before-test u v .0 b)))
+            (not-T (before P v u) (λ b. i .not-after (before-test v u .0 b)))),
+      )

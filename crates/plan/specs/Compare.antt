@@ -1,4 +1,5 @@
--- What is compared: another opening count, more order, other numbers at other places. Demand 3, and document 01, "Compact tokenflow".
+-- What is compared: another opening count, more order, the same order by more pairs, other numbers at other places. Demand 3, document 01,
+-- "Compact tokenflow", and document 02, A6.
 use Prim.Native.Nat.{ℕ, _+_, _<_}
 use mathlib.Core.Bool.{cond}
 use mathlib.Core.Logic.{_↔_}
@@ -24,6 +25,13 @@ pub record MoreOrder (P Q : Plan) : Type 0 where
   pub events : P .events ≡ Q .events
   pub labels : (v : ℕ) → v < P .events → P .label v ≡ Q .label v
   pub order : (u v : ℕ) → Before P u v → Before Q u v
+
+-- The second plan has the pairs of the first and more, in whatever order, and the order of the first implies each of them. Read backwards,
+-- pairs are dropped that the order implies without them. Document 02, A6.
+pub record ImpliedPairs (P Q : Plan) : Type 0 where
+  pub events : P .events ≡ Q .events
+  pub kept : (i : ℕ) → i < P .pairs → (j : ℕ) × (j < Q .pairs) × (P .earlier i ≡ Q .earlier j) × (P .later i ≡ Q .later j)
+  pub implied : (j : ℕ) → j < Q .pairs → Before P (Q .earlier j) (Q .later j)
 
 -- Two nets with the same transitions that have the same numbers at the place p, whatever stands at the others.
 pub record SameAt (p : ℕ) (N M : Net) : Type 0 where

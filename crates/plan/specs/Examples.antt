@@ -9,10 +9,12 @@ use lib.IntN.{ℤ, pos, negsuc}
 use lib.ListN.{getD, length}
 use lib.Signed.{leZ}
 use Rattle.finite.specs.Bounded.{all, any, _⇒_}
+use Rattle.finite.specs.Count.{count}
+use Rattle.finite.specs.Pairs.{countPairs}
 use Rattle.finite.specs.Subset.{Set, greatest, every}
 use Rattle.finite.specs.Sum.{sum, over, atEnd}
 use Rattle.plan.specs.Net.{Net, Plan}
-use Rattle.plan.specs.Order.{before, beforeBy, skeleton, paired, freeCount}
+use Rattle.plan.specs.Order.{before, beforeBy, skeleton, independent, freeCount}
 use Rattle.plan.specs.Prefix.{prefix, front, tokens, lack, missing, need, leastOpening, spare, smallest, endCount, runsAt}
 use Rattle.plan.specs.Flow.{Flow, inflow, outflow, shares, rule1, rule2, rule3, rule4, valid, otherwiseValid, overrun}
 
@@ -129,13 +131,22 @@ pub listing-agrees :
     × (endCount listingNet listingPlan 0 ≡ negsuc 0) × (endCount listingNet listingPlan 1 ≡ pos 1) × (endCount listingNet listingPlan 2 ≡ pos 1)
     × (missing listingNet listingPlan 0 ≡ 1) × (missing listingNet listingPlan 1 ≡ 0) × (missing listingNet listingPlan 2 ≡ 0)
     × (spare listingNet listingPlan 0 ≡ negsuc 0) × (spare listingNet listingPlan 1 ≡ pos 0) × (spare listingNet listingPlan 2 ≡ pos 0)
-unfolding listingNet listingPlan freeCount paired endCount tokens missing lack spare leastOpening need prefix front before beforeBy all any sum over greatest
+unfolding listingNet listingPlan freeCount independent countPairs count endCount tokens missing lack spare leastOpening need prefix front before beforeBy all any sum over greatest
 listing-agrees = (refl, refl, refl, refl, refl, refl, refl, refl, refl, refl)
 
--- Four events in a row with the pair (0, 3) given as well: that one pair has events between its ends, so it is no skeleton pair.
+-- Three bookings in a row (document 02, A6), and four with the pair (0, 3) given as well: no two events are free of each other, and that one pair
+-- has events between its ends, so it is no skeleton pair. In the order of four that is no series or parallel composition three are free.
+pub rowPlan : Plan
+rowPlan = record { events = 3; label = λ v. 0; pairs = 2; earlier = at (0 ∷ 1 ∷ []); later = at (1 ∷ 2 ∷ []) }
+
 pub chainPlan : Plan
 chainPlan = record { events = 4; label = λ v. 0; pairs = 4; earlier = at (0 ∷ 1 ∷ 2 ∷ 0 ∷ []); later = at (1 ∷ 2 ∷ 3 ∷ 3 ∷ []) }
 
-pub chain-agrees : (skeleton chainPlan 0 ≡ true) × (skeleton chainPlan 1 ≡ true) × (skeleton chainPlan 2 ≡ true) × (skeleton chainPlan 3 ≡ false)
-unfolding chainPlan skeleton before beforeBy any
-chain-agrees = (refl, refl, refl, refl)
+pub crossedPlan : Plan
+crossedPlan = record { events = 4; label = λ v. 0; pairs = 3; earlier = at (0 ∷ 0 ∷ 1 ∷ []); later = at (2 ∷ 3 ∷ 3 ∷ []) }
+
+pub order-agrees :
+    (freeCount rowPlan ≡ 0) × (freeCount chainPlan ≡ 0) × (freeCount crossedPlan ≡ 3)
+    × (skeleton chainPlan 0 ≡ true) × (skeleton chainPlan 1 ≡ true) × (skeleton chainPlan 2 ≡ true) × (skeleton chainPlan 3 ≡ false)
+unfolding rowPlan chainPlan crossedPlan freeCount independent countPairs count sum over skeleton before beforeBy any
+order-agrees = (refl, refl, refl, refl, refl, refl, refl)

@@ -1,9 +1,12 @@
--- The order of a plan: before, skeleton pairs, the free count. Document 01, "Net, plan and verdict"; 003, section 2.
+-- The order of a plan: before, independent events and their count, chains, skeleton pairs. Document 01, "Net, plan and verdict", and document 02,
+-- A6; 003, section 2, and 002, section 3.
 use Prim.Native.Nat.{ℕ, zero, suc, _<_}
 use mathlib.Core.Bool.{Bool, false, not, _&&_, _||_}
+use mathlib.Core.Logic.{_⊎_}
+use mathlib.Core.Path.{_≡_}
 use lib.Dec.{eqb}
 use Rattle.finite.specs.Bounded.{any}
-use Rattle.finite.specs.Sum.{sum, on}
+use Rattle.finite.specs.Pairs.{countPairs}
 use Rattle.plan.specs.Net.{Plan}
 
 -- "Before" is the transitive closure of the pairs: the order < of 003, definition 1.
@@ -27,16 +30,23 @@ pub record Sound (P : Plan) : Type 0 where
   pub later-named : (i : ℕ) → i < P .pairs → P .later i < P .events
   pub acyclic : (v : ℕ) → ¬ Before P v v
 
--- An order pair of u and v is given, either way round.
-unfoldable pub paired : Plan → ℕ → ℕ → Bool
-paired P u v =
-    any
-    (P .pairs)
-    (λ i. (eqb (P .earlier i) u && eqb (P .later i) v) || (eqb (P .earlier i) v && eqb (P .later i) u))
+-- Two different events are free of each other if neither is before the other (document 02, A6). 002, section 3: they are independent.
+pub record Independent (P : Plan) (u v : ℕ) : Type 0 where
+  pub different : ¬ (u ≡ v)
+  pub not-before : ¬ Before P u v
+  pub not-after : ¬ Before P v u
 
--- The free count: the number of unordered pairs of two events for which no order pair is given.
+-- The test of it. `Closure.independent-test` says that it passes exactly if two are independent.
+unfoldable pub independent : Plan → ℕ → ℕ → Bool
+independent P u v = not (eqb u v) && (not (before P u v) && not (before P v u))
+
+-- The free count: the number of unordered pairs of events that are free of each other.
 unfoldable pub freeCount : Plan → ℕ
-freeCount P = sum (P .events) (λ v. sum v (λ u. on (not (paired P u v)) 1))
+freeCount P = countPairs (P .events) (independent P)
+
+-- A chain: of any two different events one is before the other. 002, section 3: the order is total.
+pub record IsChain (P : Plan) : Type 0 where
+  pub ordered : (u v : ℕ) → u < P .events → v < P .events → ¬ (u ≡ v) → Before P u v ⊎ Before P v u
 
 -- A pair is a skeleton pair if no event lies between its two ends. 003: an arc of the transitive reduction.
 unfoldable pub skeleton : Plan → ℕ → Bool

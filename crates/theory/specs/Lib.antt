@@ -2,6 +2,7 @@ pub mod Signs
 pub mod Stage
 pub mod Existence
 pub mod Skeleton
+pub mod Free
 pub mod Prefixes
 pub mod Least
 pub mod Missing

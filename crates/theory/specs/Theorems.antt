@@ -1,6 +1,6 @@
 -- The theorems about the definitions of the crate `plan`, each statement as a record whose fields are its clauses.
--- They hold of every plan without a cycle whose pairs name events, and of every place; no number has a limit.
-use Prim.Native.Nat.{ℕ, _+_, _-_, _≤_, _<_}
+-- They hold of every plan without a cycle whose pairs name events, that of the free count of any plan, and of every place; no number has a limit.
+use Prim.Native.Nat.{ℕ, suc, _+_, _-_, _*_, _/_, _≤_, _<_}
 use native.Mathlib.Omega.{arith}
 use mathlib.Core.Bool.{Bool, _&&_}
 use mathlib.Core.Logic.{_⊎_, inl, inr, ⊎-elim, _↔_}
@@ -14,13 +14,14 @@ use Rattle.finite.specs.Bounded.{all-yes, yes-all}
 use Rattle.finite.specs.Subset.{Set, empty}
 use Rattle.finite.specs.Sum.{sum, over, over-mono, sum-zero}
 use Rattle.plan.specs.Net.{Net, Plan, takenBy, Labelled}
-use Rattle.plan.specs.Order.{Sound}
+use Rattle.plan.specs.Order.{Before, Sound, freeCount, IsChain}
 use Rattle.plan.specs.Prefix.{IsPrefix, front, full, stepLack, lack, above0, missing, need, leastOpening, spare, runsAt, runs, smallest, endCount}
 use Rattle.plan.specs.Cut.{IsCut, preset, Executable, Execution}
 use Rattle.plan.specs.Flow.{Flow, rule1, rule2, rule3, rule4, valid, otherwiseValid, overrun, shares}
-use Rattle.plan.specs.Compare.{withMore, opensWith, MoreOrder, SameAt, SameWeights, SamePlace}
+use Rattle.plan.specs.Compare.{withMore, opensWith, MoreOrder, ImpliedPairs, SameAt, SameWeights, SamePlace}
 use Rattle.theory.specs.Comparisons.{least-same, missing-more, missing-opens, missing-order, missing-same, least-alike, missing-alike, lack-alike, smallest-alike, end-alike}
 use Rattle.theory.specs.Cuts.{takenUpTo, some-cut, prefixes-cuts, cuts-prefixes}
+use Rattle.theory.specs.Free.{free-order, free-same, implied-before, chain-free, free-chain, row-chain, unordered-free}
 use Rattle.theory.specs.Least.{taken, given, need-is, need-above0, least-bounds, least-attained}
 use Rattle.theory.specs.Missing.{supply, step-lack-is, lack-is, lack-above0, lack-need, missing-opening, missing-bounds, missing-attained, least-most}
 use Rattle.theory.specs.Overrun.{shares-bounds, shares-attained, overrun-bounds, overrun-attained}
@@ -122,10 +123,37 @@ pub record SpareCount (N : Net) (P : Plan) (p : ℕ) : Type 0 where
   -- other places' numbers don't matter
   pub other-places : (M : Net) → Labelled N P → SameAt p N M → spare M P p ≡ spare N P p
 
+-- The free count: how many unordered pairs of events are free of each other. Document 02, A6.
+pub record FreeCount (P : Plan) : Type 0 where
+  -- it depends on "before" alone,
+  pub same-before : (Q : Plan) → P .events ≡ Q .events → ((u v : ℕ) → Before P u v ↔ Before Q u v) → freeCount Q ≡ freeCount P
+  -- so it doesn't change when pairs are added that the order already implies, or dropped that it implies without them
+  pub implied-added : (Q : Plan) → ImpliedPairs P Q → freeCount Q ≡ freeCount P
+  pub implied-dropped : (Q : Plan) → ImpliedPairs Q P → freeCount Q ≡ freeCount P
+  -- it is 0 exactly in a chain; so it is where each event is before the next
+  pub none-free : (freeCount P ≡ 0) ↔ IsChain P
+  pub in-a-row : ((v : ℕ) → suc v < P .events → Before P v (suc v)) → freeCount P ≡ 0
+  -- n events without order have n(n − 1)/2
+  pub all-free : ((u v : ℕ) → u < P .events → v < P .events → ¬ Before P u v) → freeCount P ≡ P .events * (P .events - 1) / 2
+  -- more order never raises it
+  pub more-order : (Q : Plan) → MoreOrder P Q → freeCount Q ≤ freeCount P
+
 -- ---- the proofs
 
 pub extremes : (P : Plan) → Sound P → Extremes P
 extremes P S = record { empty-set = empty-prefix P; full-set = full-prefix P S }
+
+pub free-count : (P : Plan) → FreeCount P
+free-count P =
+    record {
+      same-before = free-same P;
+      implied-added = λ Q more. free-same P Q (more .events) (implied-before P Q more);
+      implied-dropped = λ Q more. sym (free-same Q P (more .events) (implied-before Q P more));
+      none-free = (free-chain P, chain-free P);
+      in-a-row = λ next. chain-free P (row-chain P next);
+      all-free = unordered-free P;
+      more-order = λ Q m. free-order P Q (m .events) (m .order);
+    }
 
 below-above0 : (z : ℤ) (m : ℕ) → above0 z ≤ m → z ≤ℤ pos m
 below-above0 (pos n) m h = record { le = le→leb n m h }

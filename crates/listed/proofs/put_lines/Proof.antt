@@ -46,7 +46,7 @@ put-counts-requires c κs =
     let summed : tie.After-sum-up = search in
     let pre = start summed .pre in
     let row = least-row _ (pre .0) _ (pre .1 .0) _ _ (counted summed .count-all .ensures .0) in
-    (pre .0, (pre .1 .0, (row, (all summed .short, (all summed .total, pre .1 .1 .1)))))
+    (pre .0, (pre .1 .0, (pre .1 .1 .0, (row, (all summed .short, (all summed .total, pre .1 .1 .1))))))
 
 put-verdict-requires : tie.Need-put-verdict-requires
 put-verdict-requires c κs =
