@@ -5,7 +5,7 @@ use native.Mathlib.Omega.{arith}
 use mathlib.Core.Bool.{Bool, true, false, not, _&&_}
 use mathlib.Core.Path.{_≡_, refl, sym, _∙_}
 use lib.Dec.{T}
-use Rattle.finite.specs.Count.{count, ones}
+use Rattle.finite.specs.Count.{count, count-ext, ones}
 use Rattle.finite.specs.Sum.{on, sum, over, on-no, on-yes, over-mono, sum-add, sum-ext, sum-mono, sum-term, sum-zero}
 
 -- Each pair is counted once, with its lower number first.
@@ -29,7 +29,6 @@ none-pairs n R e u v k l t =
 abbrev pub neither : (ℕ → ℕ → Bool) → ℕ → ℕ → Bool
 neither B u v = not (B u v) && not (B v u)
 
--- of a number and a lower one, either one is B of the other or neither
 one-of-three : (a b : Bool) → (T a → T b → ⊥) → on (not a && not b) 1 + (on a 1 + on b 1) ≡ 1
 one-of-three true true h = absurd (h tt tt)
 one-of-three true false h = refl
@@ -37,19 +36,20 @@ one-of-three false true h = refl
 one-of-three false false h = refl
 
 module _ (B : ℕ → ℕ → Bool) where
-  -- so many stand below B of each number
-  marks : ℕ → ℕ
-  marks n = sum n (λ v. count n (λ u. B u v))
+  -- how many pairs B holds of, the one way round or the other
+  ordered : ℕ → ℕ
+  ordered n = sum n (λ v. count n (λ u. B u v))
 
-  -- one number more: a row and a column
-  marks-more : (n : ℕ) → (T (B n n) → ⊥) → marks (suc n) ≡ marks n + (count n (λ u. B u n) + count n (λ v. B n v))
-  unfolding marks count over sum
-  marks-more n none =
+  -- one number more, which isn't B of itself
+  ordered-more : (n : ℕ) → (T (B n n) → ⊥) → ordered (suc n) ≡ ordered n + (count n (λ u. B u n) + count n (λ v. B n v))
+  unfolding ordered count over sum
+  ordered-more n none =
       omega (arith, sum-add n (λ v. sum n (λ u. on (B u v) 1)) (λ v. on (B n v) 1), on-no (B n n) 1 none)
 
-  lower : (n : ℕ) → ((u : ℕ) → u < n → T (B u n) → T (B n u) → ⊥) → count n (λ u. neither B u n) + (count n (λ u. B u n) + count n (λ v. B n v)) ≡ n
+  -- the numbers below n, by how they stand to it
+  by-order : (n : ℕ) → ((u : ℕ) → u < n → T (B u n) → T (B n u) → ⊥) → count n (λ u. neither B u n) + (count n (λ u. B u n) + count n (λ v. B n v)) ≡ n
   unfolding count over
-  lower n apart =
+  by-order n apart =
       omega (
         arith,
         sum-add n (λ u. on (B u n) 1) (λ u. on (B n u) 1),
@@ -60,22 +60,29 @@ module _ (B : ℕ → ℕ → Bool) where
 
   -- Where no two are B of each other, those of which neither is B of the other and those of which one is make all pairs.
   pub pairs-left : (n : ℕ) → ((u v : ℕ) → u < n → v < n → T (B u v) → T (B v u) → ⊥) → 2 * (countPairs n (neither B) + sum n (λ v. count n (λ u. B u v))) + n ≡ n * n
-  unfolding countPairs sum marks
+  unfolding countPairs sum ordered
   pairs-left zero apart = refl
   pairs-left (suc n) apart =
       omega (
         arith,
         pairs-left n (λ u v k l. apart u v (le-step k) (le-step l)),
-        marks-more n (λ t. apart n n (lt-suc-self n) (lt-suc-self n) t t),
-        lower n (λ u l. apart u n (le-step l) (lt-suc-self n)),
+        ordered-more n (λ t. apart n n (lt-suc-self n) (lt-suc-self n) t t),
+        by-order n (λ u l. apart u n (le-step l) (lt-suc-self n)),
         mul-suc (suc n) n,
         mul-comm (suc n) n,
         mul-suc n n,
       )
 
-no-marks : (n : ℕ) → sum n (λ v. count n (λ u. false)) ≡ 0
+  -- Counted both ways round each pair is counted twice.
+  pub pairs-twice : (n : ℕ) → ((v : ℕ) → T (B v v) → ⊥) → ((u v : ℕ) → B u v ≡ B v u) → sum n (λ v. count n (λ u. B u v)) ≡ 2 * countPairs n B
+  unfolding countPairs sum ordered
+  pairs-twice zero none turned = refl
+  pairs-twice (suc n) none turned =
+      omega (arith, pairs-twice n none turned, ordered-more n (none n), count-ext n (λ v. B n v) (λ u. B u n) (λ u l. turned n u))
+
+none-ordered : (n : ℕ) → sum n (λ v. count n (λ u. false)) ≡ 0
 unfolding count over
-no-marks n = sum-zero n _ (λ v l. sum-zero n _ (λ u k. refl))
+none-ordered n = sum-zero n _ (λ v l. sum-zero n _ (λ u k. refl))
 
 square : (n : ℕ) → n * n ≡ n * (n - 1) + n
 square zero = refl
@@ -89,6 +96,6 @@ pairs-all n R all =
       pairs-mono n R (neither (λ u v. false)) (λ u v k l t. tt),
       pairs-mono n (neither (λ u v. false)) R (λ u v k l t. all u v k l),
       pairs-left (λ u v. false) n (λ u v k l t. absurd t),
-      no-marks n,
+      none-ordered n,
       square n,
     )

@@ -3,14 +3,33 @@ use Prim.Native.Nat.{ℕ, zero, suc, _-_, _*_, _/_, _≤_, _<_}
 use native.Mathlib.Nat.{le-antisymm, le-of-lt, not-suc-le-zero}
 use native.Mathlib.Omega.{arith}
 use mathlib.Core.Logic.{_⊎_, inl, inr, ⊎-elim, _↔_}
-use mathlib.Core.Path.{_≡_, sym, subst, subst₂}
+use mathlib.Core.Path.{_≡_, refl, sym, subst, subst₂}
 use lib.Dec.{T, T-not, ltb, ltb→lt, nltb→le}
-use Rattle.finite.specs.Bounded.{below-suc, decide}
-use Rattle.finite.specs.Pairs.{countPairs, pairs-mono, pairs-none, none-pairs, pairs-all}
+use Rattle.finite.specs.Bounded.{below-suc, decide, same}
+use Rattle.finite.specs.Count.{count}
+use Rattle.finite.specs.Pairs.{countPairs, pairs-mono, pairs-none, none-pairs, pairs-all, pairs-twice}
+use Rattle.finite.specs.Sum.{sum}
 use Rattle.plan.specs.Net.{Plan}
 use Rattle.plan.specs.Order.{Before, pair, chain, before, Independent, independent, freeCount, IsChain}
 use Rattle.plan.specs.Closure.{before-test, independent-test}
 use Rattle.plan.specs.Compare.{ImpliedPairs}
+
+-- Of two independent events either may come first, so that counted both ways round each two are counted twice.
+pub free-twice : (P : Plan) → sum (P .events) (λ v. count (P .events) (λ u. independent P u v)) ≡ 2 * freeCount P
+unfolding freeCount
+free-twice P =
+    pairs-twice (independent P) (P .events) (λ v t. independent-test P v v .0 t .different refl) (λ u v.
+    same (independent P u v) (independent P v u) (turned u v) (turned v u))
+  where
+    turned : (u v : ℕ) → T (independent P u v) → T (independent P v u)
+    turned u v t =
+        let i = independent-test P u v .0 t in
+        independent-test P v u .1
+        (record {
+          different = λ e. i .different (sym e);
+          not-before = i .not-after;
+          not-after = i .not-before;
+        })
 
 -- More order never raises it.
 pub free-order : (P Q : Plan) → P .events ≡ Q .events → ((u v : ℕ) → Before P u v → Before Q u v) → freeCount Q ≤ freeCount P

@@ -11,17 +11,18 @@ use lib.Signed.{leZ, _≤ℤ_}
 use native.Mathlib.Nat.{eq-zero-or-pos}
 use mir.Facts.{and-yes, yes-and}
 use Rattle.finite.specs.Bounded.{all-yes, yes-all}
+use Rattle.finite.specs.Count.{count}
 use Rattle.finite.specs.Subset.{Set, empty}
 use Rattle.finite.specs.Sum.{sum, over, over-mono, sum-zero}
 use Rattle.plan.specs.Net.{Net, Plan, takenBy, Labelled}
-use Rattle.plan.specs.Order.{Before, Sound, freeCount, IsChain}
+use Rattle.plan.specs.Order.{Before, Sound, independent, freeCount, IsChain}
 use Rattle.plan.specs.Prefix.{IsPrefix, front, full, stepLack, lack, above0, missing, need, leastOpening, spare, runsAt, runs, smallest, endCount}
 use Rattle.plan.specs.Cut.{IsCut, preset, Executable, Execution}
 use Rattle.plan.specs.Flow.{Flow, rule1, rule2, rule3, rule4, valid, otherwiseValid, overrun, shares}
 use Rattle.plan.specs.Compare.{withMore, opensWith, MoreOrder, ImpliedPairs, SameAt, SameWeights, SamePlace}
 use Rattle.theory.specs.Comparisons.{least-same, missing-more, missing-opens, missing-order, missing-same, least-alike, missing-alike, lack-alike, smallest-alike, end-alike}
 use Rattle.theory.specs.Cuts.{takenUpTo, some-cut, prefixes-cuts, cuts-prefixes}
-use Rattle.theory.specs.Free.{free-order, free-same, implied-before, chain-free, free-chain, row-chain, unordered-free}
+use Rattle.theory.specs.Free.{free-twice, free-order, free-same, implied-before, chain-free, free-chain, row-chain, unordered-free}
 use Rattle.theory.specs.Least.{taken, given, need-is, need-above0, least-bounds, least-attained}
 use Rattle.theory.specs.Missing.{supply, step-lack-is, lack-is, lack-above0, lack-need, missing-opening, missing-bounds, missing-attained, least-most}
 use Rattle.theory.specs.Overrun.{shares-bounds, shares-attained, overrun-bounds, overrun-attained}
@@ -125,6 +126,8 @@ pub record SpareCount (N : Net) (P : Plan) (p : ℕ) : Type 0 where
 
 -- The free count: how many unordered pairs of events are free of each other. Document 02, A6.
 pub record FreeCount (P : Plan) : Type 0 where
+  -- counted both ways round, each two events are counted twice
+  pub both-ways : sum (P .events) (λ v. count (P .events) (λ u. independent P u v)) ≡ 2 * freeCount P
   -- it depends on "before" alone,
   pub same-before : (Q : Plan) → P .events ≡ Q .events → ((u v : ℕ) → Before P u v ↔ Before Q u v) → freeCount Q ≡ freeCount P
   -- so it doesn't change when pairs are added that the order already implies, or dropped that it implies without them
@@ -146,6 +149,7 @@ extremes P S = record { empty-set = empty-prefix P; full-set = full-prefix P S }
 pub free-count : (P : Plan) → FreeCount P
 free-count P =
     record {
+      both-ways = free-twice P;
       same-before = free-same P;
       implied-added = λ Q more. free-same P Q (more .events) (implied-before P Q more);
       implied-dropped = λ Q more. sym (free-same Q P (more .events) (implied-before Q P more));
