@@ -3,7 +3,7 @@ use Prim.Native.Nat.{ℕ, zero, suc, _+_, _-_, _*_, _/_, _≤_, _<_}
 use native.Mathlib.Nat.{le-step, lt-suc-self, mul-comm, mul-suc}
 use native.Mathlib.Omega.{arith}
 use mathlib.Core.Bool.{Bool, true, false, not, _&&_}
-use mathlib.Core.Path.{_≡_, refl, sym, _∙_}
+use mathlib.Core.Path.{_≡_, refl}
 use lib.Dec.{T}
 use Rattle.finite.specs.Count.{count, count-ext, ones}
 use Rattle.finite.specs.Sum.{on, sum, over, on-no, on-yes, over-mono, sum-add, sum-ext, sum-mono, sum-term, sum-zero}

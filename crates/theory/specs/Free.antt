@@ -1,4 +1,4 @@
--- The free count depends on "before" alone and falls with more order; a chain's, and that of events without order. Document 02, A6.
+-- The free count depends on "before" alone and never rises with more order; a chain's, and that of events without order. Document 02, A6.
 use Prim.Native.Nat.{ℕ, zero, suc, _-_, _*_, _/_, _≤_, _<_}
 use native.Mathlib.Nat.{le-antisymm, le-of-lt, not-suc-le-zero}
 use native.Mathlib.Omega.{arith}
