@@ -1,16 +1,18 @@
 -- The summary of the first places, one place after another.
 use Prim.Native.Nat.{ℕ, _+_, _≤_, _<_}
+use native.Mathlib.Numerals.{add-one}
 use native.Mathlib.Omega.{arith}
-use mathlib.Core.Bool.{Bool, false}
-use mathlib.Core.Path.{_≡_, refl, sym, ap, _∙_}
+use mathlib.Core.Bool.{Bool, true, false}
+use mathlib.Core.Option.{Option, none, some}
+use mathlib.Core.Path.{_≡_, refl, sym, ap, ap₂, _∙_}
 use borrow.Author.Tests.{lt-ltb, le-ltb}
 use lib.Dec.{ltb}
-use Rattle.finite.specs.Bounded.{any}
-use Rattle.finite.specs.First.{first-found, first-done}
-use Rattle.finite.specs.Search.{search-start, search-more}
+use Rattle.finite.specs.First.{first, orHere}
 use Rattle.finite.specs.Sum.{on, sum-start, sum-more}
+use Rattle.ids.specs.declared.Place.{Place}
+use Rattle.summary.specs.declared.Verdict.{Verdict}
 use Rattle.summary.specs.declared.Verdict.the-variants.{Runs, Short}
-use Rattle.summary.specs.Summary.{totalMissing, shortPlaces, shortNumber, shortCount, VerdictOf}
+use Rattle.summary.specs.Summary.{totalMissing, shortPlaces, firstShort, shortNumber, shortCount, verdictNumber, verdictCount, VerdictOf, NextVerdict}
 
 module _ (missing : ℕ → ℕ) where
   pub total-none : totalMissing missing 0 ≡ 0
@@ -33,21 +35,51 @@ module _ (missing : ℕ → ℕ) where
   unfolding shortPlaces
   short-same p l = omega (arith, sum-more p (λ q. on (ltb 0 (missing q)) 1), ap (λ (b : Bool). on b 1) (le-ltb 0 (missing p) l))
 
-  -- no place so far is short: none of them passes the test of a short place
-  pub none-short : (p : ℕ) → p ≡ 0 → any p (λ q. ltb 0 (missing q)) ≡ false
-  none-short p e = rw e (search-start _)
+  -- one place more: what the first short place is then
+  first-more : (p : ℕ) → firstShort missing (p + 1) ≡ orHere (firstShort missing p) (ltb 0 (missing p)) p
+  unfolding first
+  first-more p = rw (add-one p) refl
 
-  pub more-none : (p : ℕ) → any p (λ q. ltb 0 (missing q)) ≡ false → missing p ≤ 0 → any (p + 1) (λ q. ltb 0 (missing q)) ≡ false
-  more-none p none-so-far l = search-more _ p none-so-far (le-ltb 0 (missing p) l)
+  after : (p : ℕ) (o : Option ℕ) (b : Bool) → firstShort missing p ≡ o → ltb 0 (missing p) ≡ b → firstShort missing (p + 1) ≡ orHere o b p
+  after p o b found tested = first-more p ∙ ap₂ (λ (x : Option ℕ) (c : Bool). orHere x c p) found tested
 
-  -- the place and the count that are told
-  pub short-told : (p n q m : ℕ) → any p (λ q. ltb 0 (missing q)) ≡ false → 0 < missing p → p < n → q ≡ p → m ≡ missing p
-      → VerdictOf missing n (Short (record { 0 = q }) m)
-  short-told p n q m none-so-far l h at is =
-      let found = first-found (λ q. ltb 0 (missing q)) n n p refl h none-so-far (lt-ltb 0 (missing p) l) in
-      (omega (arith, ap shortNumber found), is ∙ sym (ap (shortCount missing) found))
+  told : (n : ℕ) (o : Option ℕ) (v : Verdict) → firstShort missing n ≡ o → verdictNumber v ≡ shortNumber o → verdictCount v ≡ shortCount missing o → VerdictOf missing n v
+  told n o v found number count = (number ∙ sym (ap shortNumber found), count ∙ sym (ap (shortCount missing) found))
 
-  pub runs-told : (p n : ℕ) → any p (λ q. ltb 0 (missing q)) ≡ false → n ≤ p → VerdictOf missing n Runs
-  runs-told p n none-so-far h =
-      let nothing = first-done (λ q. ltb 0 (missing q)) n n p refl h none-so-far in
-      (sym (ap shortNumber nothing), sym (ap (shortCount missing) nothing))
+  pub none-yet : (n : ℕ) → n ≡ 0 → VerdictOf missing n Runs
+  unfolding first
+  none-yet n e = rw e (refl, refl)
+
+  module _ (p m : ℕ) (is : missing p ≡ m) where
+    -- the first short place stays, whatever comes after it
+    stays-by : (o : Option ℕ) (q : Place) (k : ℕ) → firstShort missing p ≡ o → 1000 + q .0 ≡ shortNumber o → k ≡ shortCount missing o → VerdictOf missing (p + 1) (Short q k)
+    stays-by none q k found number count = absurd (omega arith)
+    stays-by (some i) q k found number count = told (p + 1) (some i) (Short q k) (after p (some i) (ltb 0 (missing p)) found refl) number count
+
+    stays : (q : Place) (k : ℕ) → VerdictOf missing p (Short q k) → VerdictOf missing (p + 1) (Short q k)
+    stays q k v = stays-by (firstShort missing p) q k refl (v .0) (v .1)
+
+    -- a place that lacks something is the first short one where none was,
+    here-by : (o : Option ℕ) (q : Place) → firstShort missing p ≡ o → 0 ≡ shortNumber o → q .0 ≡ p → 0 < m → VerdictOf missing (p + 1) (Short q m)
+    here-by none q found number at lacks =
+        told (p + 1) (some p) (Short q m) (after p none true found (lt-ltb 0 (missing p) (omega (arith, is)))) (omega arith) (sym is)
+    here-by (some i) q found number at lacks = absurd (omega arith)
+
+    -- and one that lacks nothing changes nothing
+    nothing-by : (o : Option ℕ) → firstShort missing p ≡ o → 0 ≡ shortNumber o → m ≡ 0 → VerdictOf missing (p + 1) Runs
+    nothing-by none found number lacks =
+        told (p + 1) none Runs (after p none false found (le-ltb 0 (missing p) (omega (arith, is)))) refl refl
+    nothing-by (some i) found number lacks = absurd (omega arith)
+
+    nothing : (v : Verdict) → m ≡ 0 → VerdictOf missing p v → VerdictOf missing (p + 1) v
+    nothing Runs lacks v = nothing-by (firstShort missing p) refl (v .0) lacks
+    nothing (Short q k) lacks v = stays q k v
+
+pub same-after : (v : Verdict) (p m : ℕ) → m ≡ 0 → NextVerdict v p m v
+same-after v p m lacks = λ missing is before. nothing missing p m is v lacks before
+
+pub short-after : (p : Place) (m : ℕ) → 0 < m → NextVerdict Runs (p .0) m (Short p m)
+short-after p m lacks = λ missing is before. here-by missing (p .0) m is (firstShort missing (p .0)) p refl (before .0) refl lacks
+
+pub kept-after : (q : Place) (k p m : ℕ) → NextVerdict (Short q k) p m (Short q k)
+kept-after q k p m = λ missing is before. stays missing p m is q k before

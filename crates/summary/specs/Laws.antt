@@ -12,7 +12,7 @@ use Rattle.finite.specs.Sum.{on, sum-ext}
 use Rattle.summary.specs.declared.Totals.{Totals}
 use Rattle.summary.specs.declared.Verdict.{Verdict}
 use Rattle.summary.specs.declared.Verdict.the-variants.{Runs, Short}
-use Rattle.summary.specs.Summary.{totalMissing, shortPlaces, firstShort, verdictNumber, verdictCount, shortNumber, shortCount, VerdictOf, PlanValues, valuesIn, valuesOf}
+use Rattle.summary.specs.Summary.{totalMissing, shortPlaces, firstShort, verdictNumber, verdictCount, shortNumber, shortCount, firstPlace, verdictPlace, VerdictOf, PlanValues, valuesIn, valuesOf}
 
 -- The place q is the first short one,
 pub record IsFirst (missing : ℕ → ℕ) (q : ℕ) : Type 0 where
@@ -107,6 +107,24 @@ module _ (missing : ℕ → ℕ) (n : ℕ) where
       let says = says-by (firstShort missing n) refl in
       (first-so (firstShort missing n) says q, first-when (firstShort missing n) says q)
 
+  place-fits : (o : Option ℕ) → FirstSays o → firstPlace o ≤ n
+  place-fits none h = omega arith
+  place-fits (some q) h = omega (arith, h .0)
+
+  -- The place that is told is one of the n, or 0,
+  pub first-fits : firstPlace (firstShort missing n) ≤ n
+  first-fits = place-fits (firstShort missing n) (says-by (firstShort missing n) refl)
+
+  place-by : (v : Verdict) (o : Option ℕ) → verdictNumber v ≡ shortNumber o → verdictPlace v ≡ firstPlace o
+  place-by Runs none number = refl
+  place-by Runs (some q) number = absurd (omega arith)
+  place-by (Short p m) none number = absurd (omega arith)
+  place-by (Short p m) (some q) number = omega arith
+
+  -- and a verdict that tells the first short place tells its number.
+  pub place-told : (v : Verdict) → VerdictOf missing n v → verdictPlace v ≡ firstPlace (firstShort missing n)
+  place-told v is = place-by v (firstShort missing n) (is .0)
+
 module _ (f g : ℕ → ℕ) (n : ℕ) (same : (p : ℕ) → p < n → f p ≡ g p) where
   first-agrees : firstShort f n ≡ firstShort g n
   first-agrees = first-ext n (λ p. ltb 0 (f p)) (λ p. ltb 0 (g p)) (λ p l. ap (ltb 0) (same p l))
@@ -125,9 +143,10 @@ module _ (f g : ℕ → ℕ) (n : ℕ) (same : (p : ℕ) → p < n → f p ≡ g
         short = sum-ext n (λ p. on (ltb 0 (f p)) 1) (λ p. on (ltb 0 (g p)) 1) (λ p l. ap (λ (m : ℕ). on (ltb 0 m) 1) (same p l)) i;
         number = shortNumber (first-agrees i);
         count = (ap (shortCount f) first-agrees ∙ count-agrees (firstShort g n) refl) i;
+        first = firstPlace (first-agrees i);
       }
 
--- Verdicts that say the same two numbers are the same,
+-- Verdicts that say the same number and count are the same,
 same-verdict : (v w : Verdict) → verdictNumber v ≡ verdictNumber w → verdictCount v ≡ verdictCount w → v ≡ w
 same-verdict Runs Runs number count = refl
 same-verdict Runs (Short q m) number count = let wrong : ⊥ = omega arith in absurd wrong

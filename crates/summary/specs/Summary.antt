@@ -29,12 +29,17 @@ abbrev pub verdictNumber : Verdict → ℕ
 verdictNumber Runs = 0
 verdictNumber (Short p m) = 1000 + p .0
 
--- and what is missing there.
+-- what is missing there,
 abbrev pub verdictCount : Verdict → ℕ
 verdictCount Runs = 0
 verdictCount (Short p m) = m
 
--- what the two have to be, by the first short place
+-- and the number of that place itself, 0 where nothing is short.
+abbrev pub verdictPlace : Verdict → ℕ
+verdictPlace Runs = 0
+verdictPlace (Short p m) = p .0
+
+-- what the three have to be, by the first short place
 abbrev pub shortNumber : Option ℕ → ℕ
 shortNumber none = 0
 shortNumber (some p) = 1000 + p
@@ -43,22 +48,37 @@ abbrev pub shortCount : (ℕ → ℕ) → Option ℕ → ℕ
 shortCount missing none = 0
 shortCount missing (some p) = missing p
 
+abbrev pub firstPlace : Option ℕ → ℕ
+firstPlace none = 0
+firstPlace (some p) = p
+
 -- The verdict v tells the first short place.
 abbrev pub VerdictOf : (ℕ → ℕ) → ℕ → Verdict → Type 0
 VerdictOf missing n v =
     (verdictNumber v ≡ shortNumber (firstShort missing n)) × (verdictCount v ≡ shortCount missing (firstShort missing n))
 
--- The values of an answer: the total missing, the number of short places, and the two that the verdict says.
+-- With the place p, where m are missing, the verdict v on the places below it becomes r, whatever is missing there.
+abbrev pub NextVerdict : Verdict → ℕ → ℕ → Verdict → Type 0
+NextVerdict v p m r = (missing : ℕ → ℕ) → missing p ≡ m → VerdictOf missing p v → VerdictOf missing (p + 1) r
+
+-- The values of an answer: the total missing, the number of short places, and the three that the verdict says.
 pub record PlanValues : Type 0 where
   pub total : ℕ
   pub short : ℕ
   pub number : ℕ
   pub count : ℕ
+  pub first : ℕ
 
 -- those that are told
 abbrev pub valuesIn : Totals → PlanValues
 valuesIn t =
-    record { total = t .total; short = t .short; number = verdictNumber (t .verdict); count = verdictCount (t .verdict) }
+    record {
+      total = t .total;
+      short = t .short;
+      number = verdictNumber (t .verdict);
+      count = verdictCount (t .verdict);
+      first = verdictPlace (t .verdict);
+    }
 
 -- those that the counts of n places come to
 unfoldable pub valuesOf : (ℕ → ℕ) → ℕ → PlanValues
@@ -68,6 +88,7 @@ valuesOf missing n =
       short = shortPlaces missing n;
       number = shortNumber (firstShort missing n);
       count = shortCount missing (firstShort missing n);
+      first = firstPlace (firstShort missing n);
     }
 
 -- the missing counts that stand in a row

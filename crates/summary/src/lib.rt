@@ -4,7 +4,7 @@ ghost use mathlib.Core.Path.{_≡_};
 ghost use lib.ListN.{length};
 ghost use Rattle.ids.specs.Lent.{was};
 ghost use Rattle.ids.specs.Limits.{mostPlaces};
-ghost use Rattle.summary.specs.Summary.{totalMissing, shortPlaces, VerdictOf, verdictNumber, valuesIn, valuesOf, countAt, MissingCounts};
+ghost use Rattle.summary.specs.Summary.{totalMissing, shortPlaces, VerdictOf, NextVerdict, verdictNumber, verdictPlace, valuesIn, valuesOf, countAt, MissingCounts};
 use ids::Place;
 
 // A plan runs, or is short at a first place by a missing count.
@@ -44,16 +44,28 @@ fn short_places(row: &[u32], n: usize) -> u32
     short
 }
 
+// The verdict on the places below p and on p itself, where m are missing: the first short place stays.
+fn keep_first(v: Verdict, p: Place, m: u32) -> Verdict
+    ensures { λ r. ⌜ NextVerdict v (p .0) m r ⌝ }
+{
+    if m == 0 {
+        return v;
+    }
+    match v {
+        Verdict::Runs => Verdict::Short(p, m),
+        Verdict::Short(q, k) => Verdict::Short(q, k),
+    }
+}
+
 fn verdict_of(row: &[u32], n: usize) -> Verdict
     requires { ⌜ n ≤ length (now row) ⌝ }
     ensures { λ r. ⌜ VerdictOf (countAt (was row)) n r ⌝ }
 {
+    let mut v = Verdict::Runs;
     for p in 0..n {
-        if row[p] > 0 {
-            return Verdict::Short(Place(p), row[p]);
-        }
+        v = keep_first(v, Place(p), row[p]);
     }
-    Verdict::Runs
+    v
 }
 
 // What the counts of the first n places come to.
@@ -80,4 +92,15 @@ pub fn verdict_number(v: Verdict) -> u32
         Verdict::Runs => 0,
         Verdict::Short(p, _m) => 1000 + p.0 as u32,
     }
+}
+
+// The number of the first short place, 0 for a plan that runs.
+pub fn first_place(v: Verdict) -> u32
+    requires { ⌜ verdictPlace v ≤ mostPlaces ⌝ }
+    ensures { λ r. ⌜ r ≡ verdictPlace v ⌝ }
+{
+    if let Verdict::Short(p, _m) = v {
+        return p.0 as u32;
+    }
+    0
 }
