@@ -1,4 +1,26 @@
-/* Reedanchor for C: whether a booking plan runs at every place of its net. */
+/*
+ * Reedanchor for C and C++: a judge of booking plans whose every answer is proved.
+ *
+ * A sheet is a net and a plan as bytes (README.md, "The sheet"). Each call gets a sheet as a pointer and a length, judges it for all
+ * orders at once, and relies on no earlier call.
+ *
+ * What holds of every call:
+ *
+ * Sheets      Any bytes may be given, of any length. They are only read. A call that is given the first 21,281 bytes of a longer sheet says
+ *             the same as one that is given all of it.
+ * Faults      A call returns 0, or the number of its fault: the first of the list below that applies. A refused call changes no row.
+ * Rows        A row is lent as a pointer and a length in entries. Entries beyond those needed are neither read nor changed, so a row may be
+ *             longer than needed, and one of the greatest length given below does for every sheet.
+ * Numbers     A number behind a pointer of its own is a result. It is written at every return, whatever stood there, and is 0 where the
+ *             call is refused. `*item` is the item at fault for 5 to 10 and 0 for every other fault and for none.
+ * Null        A null pointer may be given for a sheet or a row of length 0, and for nothing else: not for a single number, nor for a
+ *             row with a length, which the call may read.
+ * Overlaps    What a call writes may not overlap with anything else that it is given: rows and numbers are all apart.
+ * Threads     There is no state, nothing is kept after the call, and no memory is allocated. Calls may run at once in several threads if
+ *             what one of them writes isn't given to another meanwhile. Every call ends.
+ * Stack       The working rows stand on the caller's stack. The REEDANCHOR_STACK_.. numbers are bytes that suffice for a call of that
+ *             name, on any sheet, below the caller's own frame.
+ */
 #ifndef REEDANCHOR_H
 #define REEDANCHOR_H
 
@@ -9,40 +31,120 @@
 extern "C" {
 #endif
 
-/* The answers. Every answer is one of these, or REEDANCHOR_SHORT plus a place number. */
+/* What a sheet may have at most. */
+#define REEDANCHOR_MOST_PLACES 64
+#define REEDANCHOR_MOST_TRANSITIONS 64
+#define REEDANCHOR_MOST_EVENTS 256
+#define REEDANCHOR_MOST_PAIRS 1024
+
+/* The longest sheet, and how much of any bytes is enough to judge them: a longer sheet is refused by that much of it. */
+#define REEDANCHOR_MOST_BYTES 21280
+#define REEDANCHOR_ENOUGH_BYTES (REEDANCHOR_MOST_BYTES + 1)
+
+/* Rows that are long enough for every sheet, in entries. */
+#define REEDANCHOR_ROW_LENGTH REEDANCHOR_MOST_PLACES
+#define REEDANCHOR_FLOW_LENGTH (REEDANCHOR_MOST_PAIRS + REEDANCHOR_MOST_EVENTS)
+#define REEDANCHOR_MARKS_LENGTH REEDANCHOR_MOST_EVENTS
+#define REEDANCHOR_TEXT_LENGTH 7216
+
+/* The table of contents that a sheet begins with, in bytes; its entries; and the item count that one of them tells. */
+#define REEDANCHOR_TABLE_BYTES 32
+#define REEDANCHOR_PLACES 0
+#define REEDANCHOR_TRANSITIONS 1
+#define REEDANCHOR_EVENTS 2
+#define REEDANCHOR_PAIRS 3
+#define REEDANCHOR_COUNT(sheet, entry)                                                                          \
+    ((uint32_t)(sheet)[8 * (entry) + 4] | (uint32_t)(sheet)[8 * (entry) + 5] << 8 |                             \
+     (uint32_t)(sheet)[8 * (entry) + 6] << 16 | (uint32_t)(sheet)[8 * (entry) + 7] << 24)
+
+/* The stack that suffices for each call, in bytes. */
+#define REEDANCHOR_STACK_JUDGE (384 * 1024)
+#define REEDANCHOR_STACK_FAULT (32 * 1024)
+#define REEDANCHOR_STACK_PLAN (384 * 1024)
+#define REEDANCHOR_STACK_PLACE (1024 * 1024)
+#define REEDANCHOR_STACK_CHECK_FLOW (32 * 1024)
+#define REEDANCHOR_STACK_LISTING (384 * 1024)
+
 enum {
-    /* The plan runs: nothing is missing at any place. */
+    /* No fault. From reedanchor_judge it says that the plan runs: nothing is missing at any place. */
     REEDANCHOR_RUNS = 0,
 
-    /* Faults of the sheet; the first of this list that applies is returned, and the plan isn't judged. Late or early is decided at the first
-     * entry of the table of contents whose start is wrong. */
+    /* Faults of a sheet, in the order in which they are looked for. Late or early is decided at the first entry of the table of contents
+     * whose start is wrong. */
     REEDANCHOR_NO_TABLE = 1,       /* fewer than 32 bytes */
     REEDANCHOR_OVER_LIMIT = 2,     /* an item count above its limit: 64 places, 64 transitions, 256 events, 1,024 pairs */
     REEDANCHOR_LATE_BODY = 14,     /* a body starts late, leaving a gap */
     REEDANCHOR_EARLY_BODY = 15,    /* a body starts early, running into the one before */
     REEDANCHOR_WRONG_END = 4,      /* the sheet doesn't end with its last body */
-    REEDANCHOR_OVER_OPENING = 5,   /* an opening count above 1,000,000 */
-    REEDANCHOR_OVER_WEIGHT = 6,    /* a weight above 1,000 */
-    REEDANCHOR_NO_TRANSITION = 7,  /* an event names no transition */
-    REEDANCHOR_NO_EVENT = 8,       /* a pair names no event */
-    REEDANCHOR_SELF_PAIR = 9,      /* a pair of an event with itself */
-    REEDANCHOR_REPEATED_PAIR = 10, /* a pair given twice */
+    REEDANCHOR_OVER_OPENING = 5,   /* an opening count above 1,000,000; the item is the first such place */
+    REEDANCHOR_OVER_WEIGHT = 6,    /* a weight above 1,000; the first such transition */
+    REEDANCHOR_NO_TRANSITION = 7,  /* an event names no transition; the first such event */
+    REEDANCHOR_NO_EVENT = 8,       /* a pair names no event; the first such pair */
+    REEDANCHOR_SELF_PAIR = 9,      /* a pair of an event with itself; the first such pair */
+    REEDANCHOR_REPEATED_PAIR = 10, /* a pair given twice; the first pair that repeats an earlier one */
     REEDANCHOR_CYCLE = 11,         /* the order has a cycle */
 
-    /* The plan is short: this, plus the number of the first place where something is missing, so 1,000 to 1,063. */
+    /* Faults of a call on a sheet that has none. */
+    REEDANCHOR_NO_PLACE = 12,  /* the place number isn't in the net */
+    REEDANCHOR_SHORT_ROW = 13, /* a row is too short */
+
+    /* From reedanchor_judge alone: the plan is short. This plus the number of the first place where something is missing, so 1,000 to 1,063. */
     REEDANCHOR_SHORT = 1000
 };
 
 /*
- * Judges the plan of the sheet that is the `length` bytes at `sheet`. Any bytes may be given, of any length.
- *
- * With a length of 0 nothing is read: `sheet` may be a null pointer then, and the answer is 1. (tests/no_bytes.c makes that call
- * under the compiler's sanitizers.) Otherwise `sheet` points to `length` bytes that nobody changes during the call.
- *
- * The bytes are only read, and not after the call. There is no state, so calls may run at once in several threads. The working rows
- * stand on the caller's stack: about 300 KB.
+ * The till server's call: REEDANCHOR_RUNS, the number of the sheet's fault, or REEDANCHOR_SHORT plus the number of the first short place.
  */
 uint32_t reedanchor_judge(const uint8_t *sheet, size_t length);
+
+/*
+ * The fault of a sheet.
+ */
+uint32_t reedanchor_fault(const uint8_t *sheet, size_t length, uint32_t *item);
+
+/*
+ * The plan judgement: how many tokens are missing at each place.
+ *
+ * row            needs an entry for each place, and gets the place's missing count there: the least number of tokens more with which the plan
+ *                runs at the place, 0 where it runs
+ * *total         the sum of all missing counts
+ * *short_places  how many places are short; 0 says that the plan runs
+ * *first         the first short place; 0 also where nothing is short
+ */
+uint32_t reedanchor_plan(const uint8_t *sheet, size_t length, uint32_t *row, size_t row_length, uint32_t *item, uint32_t *total,
+                         uint32_t *short_places, uint32_t *first);
+
+/*
+ * The place judgement: whether the plan runs at one place, how many tokens the place has to spare, and what shows it.
+ *
+ * flow    needs an entry for each pair and then one for each event. It gets a valid flow if the plan runs at the place, a number for each
+ *         pair in the sheet's order and then each event's share of the opening count, else zeros.
+ * marks   needs a byte for each event. It gets 1 for each event of the smallest done set at which most tokens lack if the plan doesn't run
+ *         at the place, else zeros.
+ * *spare  the opening count less the least opening count with which the plan runs at the place, from -256,000 to 1,000,000. Below 0 the
+ *         plan doesn't run there, and as many tokens are missing.
+ */
+uint32_t reedanchor_place(const uint8_t *sheet, size_t length, size_t place, uint32_t *flow, size_t flow_length, uint8_t *marks,
+                          size_t marks_length, uint32_t *item, int32_t *spare);
+
+/*
+ * The flow check: whether a flow drawn up elsewhere is valid at a place.
+ *
+ * flow    is as above, and only read; any numbers may stand there
+ * *valid  1 if it is valid, else 0
+ */
+uint32_t reedanchor_check_flow(const uint8_t *sheet, size_t length, size_t place, const uint32_t *flow, size_t flow_length, uint32_t *item,
+                               uint32_t *valid);
+
+/*
+ * The listing: what is found of a sheet, as lines of text. A faulty sheet has a listing too, `refused` and its fault's number, so the
+ * only fault of this call is REEDANCHOR_SHORT_ROW.
+ *
+ * text      needs a byte for each of the listing's, REEDANCHOR_TEXT_LENGTH at most. It gets ASCII characters, each line ended by a line feed,
+ *           and no zero at the end.
+ * *written  the listing's length
+ */
+uint32_t reedanchor_listing(const uint8_t *sheet, size_t length, uint8_t *text, size_t text_length, size_t *written);
 
 #ifdef __cplusplus
 }

@@ -1,6 +1,8 @@
 // The numbers of places, transitions and events, which cannot be mixed up; how many of each a sheet may have; and the sizes of rows made
 // of that.
 
+// Exported calls take it, and C passes it as a `size_t`.
+#[repr(C)]
 pub struct Place(pub usize);
 
 pub struct Transition(pub usize);

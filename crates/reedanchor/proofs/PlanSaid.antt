@@ -1,4 +1,5 @@
--- The number that the till server gets is that of the plan judgement's answer for a row with a number for each place that a sheet may have.
+-- What the plan judgement says, in numbers: the till server's number is that of its answer for a row with a number for each place that a sheet
+-- may have, and the first short place that it tells is small.
 use Prim.Native.Nat.{ℕ, _≤_}
 use native.Mathlib.Nat.{eq-zero-or-pos}
 use native.Mathlib.Omega.{arith}
@@ -10,10 +11,14 @@ use Rattle.ids.specs.Limits.{mostPlaces}
 use Rattle.sheet.specs.Table.{placesOf}
 use Rattle.sheet.specs.Faults.{faultOf}
 use Rattle.sheet.specs.Faultless.{faultless}
-use Rattle.calls.specs.Call.{lower-first, long-row}
+use Rattle.calls.specs.Call.{lower-first, long-row, row-known}
 use Rattle.calls.specs.Said.{said-answer, said-refusal}
 use Rattle.sheet.specs.declared.Fault.{Fault}
 use Rattle.plan_judgement.specs.Judgement.{planFault, planValues, planSays}
+use Rattle.place.specs.Place.{missingAt}
+use Rattle.summary.specs.Laws.{first-fits}
+use Rattle.summary.specs.Summary.{valuesOf}
+use Rattle.reedanchor.specs.ForC.{firstSaid}
 use Rattle.reedanchor.specs.Till.{numberSaid, tillAnswer}
 
 module _ (s row : List ℕ) (long : mostPlaces ≤ length row) where
@@ -38,3 +43,17 @@ module _ (s row : List ℕ) (long : mostPlaces ≤ length row) where
       ∙ same-number
       ∙ sym (ap numberSaid (said-refusal (faultOf s) (planValues s) (λ clear. omega arith))))
       (eq-zero-or-pos (faultOf s .number))
+
+module _ (s row : List ℕ) where
+  among-places : planFault s row .number ≡ 0 → planValues s .first ≤ mostPlaces
+  unfolding planFault planValues valuesOf
+  among-places clear =
+      omega (arith, first-fits (missingAt s) (placesOf s), faultless s (row-known (faultOf s) row (placesOf s) clear .0) .laid .limited .places)
+
+  pub first-small : firstSaid (planSays s row) ≤ mostPlaces
+  unfolding planSays
+  first-small =
+      ⊎-elim
+      (λ clear. omega (arith, ap firstSaid (said-answer (planFault s row) (planValues s) clear), among-places clear))
+      (λ there. omega (arith, ap firstSaid (said-refusal (planFault s row) (planValues s) (λ clear. omega arith))))
+      (eq-zero-or-pos (planFault s row .number))

@@ -1,2 +1,3 @@
 pub mod Till
+pub mod ForC
 pub mod Laws

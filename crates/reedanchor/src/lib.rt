@@ -1,33 +1,105 @@
-// The plan judgement for C, over the bytes of a sheet alone.
-ghost use Prim.Native.Nat.{_<_};
+// The open calls for C: pointers and lengths for the bytes and rows that are lent, and the answer told in numbers.
 ghost use mathlib.Core.Path.{_≡_};
-ghost use Rattle.reedanchor.specs.Till.{answersBelow, numberSaid, tillAnswer};
-ghost use Rattle.plan_judgement.specs.Judgement.{says};
+ghost use Rattle.flowcheck.specs.Checked.{checkSays};
+ghost use Rattle.ids.specs.Lent.{was, is};
+ghost use Rattle.listed.specs.Listed.{listSays, rowAfter};
+ghost use Rattle.place_judgement.specs.Judgement.{judgementSays, Handed, marksAfter};
+ghost use Rattle.plan_judgement.specs.Judgement.{planSays, rowOf};
+ghost use Rattle.reedanchor.specs.ForC.{left, FaultTold, PlanTold, PlaceTold, CheckTold, ListingTold};
+ghost use Rattle.reedanchor.specs.Till.{tillAnswer};
+ghost use Rattle.sheet.specs.Faults.{faultOf};
+use fault::fault_of;
+use flowcheck::check_flow;
 use ids::PLACES;
-use plan_judgement::Answer;
+use ids::Place;
+use listed::write_listing;
+use place_judgement::judge_place;
 use plan_judgement::judge_plan;
-use summary::verdict_number;
 
-// The number of a fault, else of the verdict.
-fn answer_number(a: Answer) -> u32
-    requires { ⌜ numberSaid (says a) < answersBelow ⌝ }
-    ensures { λ r. ⌜ r ≡ numberSaid (says a) ⌝ }
-{
-    match a {
-        Answer::Refused(f) => f.number,
-        Answer::Judged(totals) => {
-            let v = totals.verdict;
-            verdict_number(v)
-        }
-    }
-}
+mod told;
+
+use told::answer_number;
+use told::tell_check;
+use told::tell_fault;
+use told::tell_listing;
+use told::tell_place;
+use told::tell_plan;
 
 // The till server's call. The row that it lends has a number for each place that a sheet may have, so fault 13 doesn't arise.
 #[no_mangle]
 pub extern "C" fn reedanchor_judge(sheet: &[u8]) -> u32
-    ensures { λ r. ⌜ r ≡ tillAnswer (now (sheet .entry)) ⌝ }
+    ensures { λ r. ⌜ r ≡ tillAnswer (was sheet) ⌝ }
 {
     let mut row = [0u32; PLACES];
     let a = judge_plan(sheet, &mut row);
     answer_number(a)
+}
+
+// The fault of a sheet.
+#[no_mangle]
+pub extern "C" fn reedanchor_fault(sheet: &[u8], item: &mut u32) -> u32
+    ensures { λ r. ⌜ FaultTold (faultOf (was sheet)) r (left item) ⌝ }
+{
+    let f = fault_of(sheet);
+    tell_fault(f, item)
+}
+
+// The plan judgement.
+#[no_mangle]
+pub extern "C" fn reedanchor_plan(
+    sheet: &[u8],
+    row: &mut [u32],
+    item: &mut u32,
+    total: &mut u32,
+    short: &mut u32,
+    first: &mut u32,
+) -> u32
+    ensures { λ r. ⌜ PlanTold (planSays (was sheet) (was row)) r (left item) (left total) (left short) (left first) ⌝ }
+    ensures { λ _. ⌜ is row ≡ rowOf (was sheet) (was row) ⌝ }
+{
+    let a = judge_plan(sheet, row);
+    tell_plan(a, item, total, short, first)
+}
+
+// The place judgement.
+#[no_mangle]
+pub extern "C" fn reedanchor_place(
+    sheet: &[u8],
+    place: Place,
+    flow: &mut [u32],
+    marks: &mut [u8],
+    item: &mut u32,
+    spare: &mut i32,
+) -> u32
+    ensures { λ r. ⌜ PlaceTold (judgementSays (was sheet) (place .0) (was flow) (was marks)) r (left item) (left spare) ⌝ }
+    ensures { λ _. ⌜ is marks ≡ marksAfter (was sheet) (place .0) (was flow) (was marks) ⌝ }
+    ensures { λ _. ⌜ Handed (was sheet) (place .0) (was flow) (was marks) (is flow) ⌝ }
+{
+    let j = judge_place(sheet, place, flow, marks);
+    tell_place(j, item, spare)
+}
+
+// The flow check.
+#[no_mangle]
+pub extern "C" fn reedanchor_check_flow(
+    sheet: &[u8],
+    place: Place,
+    flow: &[u32],
+    item: &mut u32,
+    valid: &mut u32,
+) -> u32
+    ensures { λ r. ⌜ CheckTold (checkSays (was sheet) (place .0) (was flow)) r (left item) (left valid) ⌝ }
+{
+    let c = check_flow(sheet, place, flow);
+    tell_check(c, item, valid)
+}
+
+// The listing.
+#[no_mangle]
+pub extern "C" fn reedanchor_listing(sheet: &[u8], text: &mut [u8], written: &mut usize) -> u32
+    ensures { λ r. ⌜ ListingTold (listSays (was sheet) (was text)) r (left written) ⌝ }
+    ensures { λ _. ⌜ is text ≡ rowAfter (was sheet) (was text) ⌝ }
+{
+    let l = write_listing(sheet, text);
+    tell_listing(l, written)
 }

@@ -7,7 +7,7 @@ use lib.ListN.{length-replicate}
 use Rattle.reedanchor.specs.Till.{numberSaid, tillAnswer}
 use Rattle.plan_judgement.specs.Judgement.{says}
 use Rattle.reedanchor.specs.Laws.{till-fits}
-use Rattle.reedanchor.proofs.Told.{till-is}
+use Rattle.reedanchor.proofs.PlanSaid.{till-is}
 use borrow.Author.Needs.{needs}
 use Rattle.reedanchor.proofs.reedanchor_judge.Statement.{statement}
 use Rattle.reedanchor.proofs.reedanchor_judge.Tie as tie

@@ -1,0 +1,21 @@
+-- `told::tell_listing` rests on what the match tells of the answer: a fault, for which the length is 0, or the length.
+use native.Mathlib.Omega.{arith}
+use mathlib.Core.Path.{sym, ap}
+use borrow.Author.Needs.{needs}
+use Rattle.listed.specs.Listed.{says}
+use Rattle.reedanchor.proofs.Same.{listing-told}
+use Rattle.reedanchor.proofs.told.tell_listing.Statement.{statement}
+use Rattle.reedanchor.proofs.told.tell_listing.Tie as tie
+
+returns : tie.Need-returns
+returns c =
+    let refused : tie.After-l = search in
+    listing-told (sym (ap says (refused .l .given .1))) (record { faulty = omega arith; length = omega arith })
+
+returns-2 : tie.Need-returns-2
+returns-2 c =
+    let written : tie.After-l2 = search in
+    listing-told (sym (ap says (written .l2 .given .1))) (record { faulty = omega arith; length = omega arith })
+
+pub tell-listing-spec : {M : Type 1} → statement M
+tell-listing-spec = tie.close (tie.spec (λ c. search needs) (λ c. search needs) returns returns-2)

@@ -1,0 +1,116 @@
+// An answer told in numbers: the fault's number is returned, and what C gets through pointers is written in every case.
+ghost use Prim.Native.Nat.{_<_, _≤_};
+ghost use mathlib.Core.Path.{_≡_};
+ghost use Rattle.flowcheck.specs.Checked.{says as saysChecked};
+ghost use Rattle.ids.specs.Limits.{mostPlaces};
+ghost use Rattle.listed.specs.Listed.{says as saysListed};
+ghost use Rattle.place_judgement.specs.Judgement.{says as saysJudged};
+ghost use Rattle.plan_judgement.specs.Judgement.{says};
+ghost use Rattle.reedanchor.specs.ForC.{left, firstSaid, FaultTold, PlanTold, PlaceTold, CheckTold, ListingTold};
+ghost use Rattle.reedanchor.specs.Till.{answersBelow, numberSaid};
+use flowcheck::Checked;
+use listed::Listed;
+use place_judgement::Judgement;
+use plan_judgement::Answer;
+use sheet::Fault;
+use sheet::no_fault;
+use summary::first_place;
+use summary::verdict_number;
+
+// The number of a fault, else of the verdict.
+pub fn answer_number(a: Answer) -> u32
+    requires { ⌜ numberSaid (says a) < answersBelow ⌝ }
+    ensures { λ r. ⌜ r ≡ numberSaid (says a) ⌝ }
+{
+    match a {
+        Answer::Refused(f) => f.number,
+        Answer::Judged(totals) => {
+            let v = totals.verdict;
+            verdict_number(v)
+        }
+    }
+}
+
+// A fault, or that there is none.
+pub fn tell_fault(f: Fault, item: &mut u32) -> u32
+    ensures { λ r. ⌜ FaultTold f r (left item) ⌝ }
+{
+    let number = f.number;
+    *item = f.item;
+    number
+}
+
+// What the plan judgement says.
+pub fn tell_plan(
+    a: Answer,
+    item: &mut u32,
+    total: &mut u32,
+    short: &mut u32,
+    first: &mut u32,
+) -> u32
+    requires { ⌜ firstSaid (says a) ≤ mostPlaces ⌝ }
+    ensures { λ r. ⌜ PlanTold (says a) r (left item) (left total) (left short) (left first) ⌝ }
+{
+    match a {
+        Answer::Refused(f) => {
+            *total = 0;
+            *short = 0;
+            *first = 0;
+            tell_fault(f, item)
+        }
+        Answer::Judged(totals) => {
+            let v = totals.verdict;
+            *total = totals.total;
+            *short = totals.short;
+            *first = first_place(v);
+            tell_fault(no_fault(), item)
+        }
+    }
+}
+
+// What the place judgement says.
+pub fn tell_place(j: Judgement, item: &mut u32, spare: &mut i32) -> u32
+    ensures { λ r. ⌜ PlaceTold (saysJudged j) r (left item) (left spare) ⌝ }
+{
+    match j {
+        Judgement::Refused(f) => {
+            *spare = 0;
+            tell_fault(f, item)
+        }
+        Judgement::Spare(z) => {
+            *spare = z;
+            tell_fault(no_fault(), item)
+        }
+    }
+}
+
+// What the flow check says.
+pub fn tell_check(c: Checked, item: &mut u32, valid: &mut u32) -> u32
+    ensures { λ r. ⌜ CheckTold (saysChecked c) r (left item) (left valid) ⌝ }
+{
+    *valid = 0;
+    match c {
+        Checked::Refused(f) => tell_fault(f, item),
+        Checked::Valid => {
+            *valid = 1;
+            tell_fault(no_fault(), item)
+        }
+        Checked::Invalid => tell_fault(no_fault(), item),
+    }
+}
+
+// What the listing's call says.
+pub fn tell_listing(l: Listed, written: &mut usize) -> u32
+    ensures { λ r. ⌜ ListingTold (saysListed l) r (left written) ⌝ }
+{
+    match l {
+        Listed::Refused(f) => {
+            *written = 0;
+            f.number
+        }
+        Listed::Length(n) => {
+            *written = n;
+            0
+        }
+    }
+}
