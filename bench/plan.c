@@ -71,20 +71,27 @@ static uint32_t read_contents(const uint8_t *sheet, size_t length, struct plan *
     return 0;
 }
 
+// A fault with its item.
+static uint32_t fault_at(struct plan *plan, uint32_t number, unsigned item)
+{
+    plan->item = item;
+    return number;
+}
+
 // Faults 5 and 6.
 static uint32_t read_net(const uint8_t *openings, const uint8_t *weights, struct plan *plan)
 {
     for (unsigned p = 0; p < plan->places; p++) {
         plan->opening[p] = get32(openings + 4 * p);
         if (plan->opening[p] > MAX_OPENING)
-            return 5;
+            return fault_at(plan, 5, p);
     }
     for (unsigned t = 0; t < plan->transitions; t++) {
         for (unsigned p = 0; p < 2 * plan->places; p++) {
             uint32_t weight = get16(weights);
             weights += 2;
             if (weight > MAX_WEIGHT)
-                return 6;
+                return fault_at(plan, 6, t);
             if (p < plan->places)
                 plan->takes[t][p] = (uint16_t)weight;
             else
@@ -98,26 +105,28 @@ static uint32_t read_net(const uint8_t *openings, const uint8_t *weights, struct
 static uint32_t read_events(const uint8_t *labels, const uint8_t *pairs, struct plan *plan)
 {
     static uint8_t given[MAX_EVENTS][MAX_EVENTS];
-    bool self = false, twice = false;
+    unsigned self = MAX_PAIRS, twice = MAX_PAIRS; // the first such pairs
 
     for (unsigned e = 0; e < plan->events; e++) {
         uint32_t label = get16(labels + 2 * e);
         if (label >= plan->transitions)
-            return 7;
+            return fault_at(plan, 7, e);
         plan->label[e] = (uint16_t)label;
     }
     memset(given, 0, sizeof given);
     for (unsigned i = 0; i < plan->pairs; i++) {
         uint32_t a = get16(pairs + 4 * i), b = get16(pairs + 4 * i + 2);
         if (a >= plan->events || b >= plan->events)
-            return 8;
-        self = self || a == b;
-        twice = twice || given[a][b];
+            return fault_at(plan, 8, i);
+        if (a == b && self == MAX_PAIRS)
+            self = i;
+        if (given[a][b] && twice == MAX_PAIRS)
+            twice = i;
         given[a][b] = 1;
         plan->earlier[i] = (uint16_t)a;
         plan->later[i] = (uint16_t)b;
     }
-    return self ? 9 : twice ? 10 : 0;
+    return self < MAX_PAIRS ? fault_at(plan, 9, self) : twice < MAX_PAIRS ? fault_at(plan, 10, twice) : 0;
 }
 
 // Fault 11, by taking away events with nothing left before them; `before` grows along that order.
@@ -170,6 +179,8 @@ static void work_out_skeleton(struct plan *plan)
 uint32_t plan_read(const uint8_t *sheet, size_t length, struct plan *plan)
 {
     size_t start[PLAN_ENTRIES + 1];
+
+    plan->item = 0;
     uint32_t fault = read_contents(sheet, length, plan, start);
 
     if (fault == 0)

@@ -15,6 +15,7 @@
 #define PLAN_ENTRIES 4 // of the table of contents: places, transitions, events, pairs
 
 struct plan {
+    uint32_t item; // at fault: the first place, transition, event or pair for 5 to 10, else 0
     unsigned places, transitions, events, pairs;
     uint32_t opening[MAX_PLACES];
     uint16_t takes[MAX_TRANSITIONS][MAX_PLACES];
@@ -30,7 +31,8 @@ struct plan {
 extern "C" {
 #endif
 
-// Reads a sheet. Returns 0, or the number of its fault, the first of 1, 2, 14 or 15, and 4 to 11; the plan is then of no use.
+// Reads a sheet. Returns 0, or the number of its fault, the first of 1, 2, 14 or 15, and 4 to 11; the item is then all that the
+// plan is good for.
 uint32_t plan_read(const uint8_t *sheet, size_t length, struct plan *plan);
 
 // The first entry of a table of contents whose start isn't the end of what precedes it, PLAN_ENTRIES if there is none.
