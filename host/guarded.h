@@ -1,17 +1,26 @@
-// Memory for sheets that can only be read, with a page before it and a page after it that can't be touched at all.
+// Memory between two pages that can't be touched at all; whoever is tested can only read it, or write it too.
 #ifndef GUARDED_H
 #define GUARDED_H
 
 #include <stddef.h>
 #include <stdint.h>
 
-enum { GUARDED_BYTES = 1 << 16 }; // the longest sheet that can be placed
+enum { GUARDED_BYTES = 1 << 16 }; // the most that can be put there
+
+enum access { READ_ONLY, READ_AND_WRITE };
+
+// Right after the first forbidden page, or right before the last one.
+enum side { AT_THE_START, AT_THE_END };
+
+struct guarded {
+    uint8_t *inside; // writable, for guarded_put alone
+    uint8_t *lent;   // the same memory between the forbidden pages
+};
 
 // Stops the program if the memory can't be had.
-void guarded_open(void);
+void guarded_open(struct guarded *memory, enum access access);
 
-// The sheet's bytes right after the first forbidden page, or right before the last one. They stay until the next call.
-const uint8_t *guarded_first(const uint8_t *sheet, size_t length);
-const uint8_t *guarded_last(const uint8_t *sheet, size_t length);
+// Copies bytes into the memory, and returns where they stand to be lent.
+uint8_t *guarded_put(const struct guarded *memory, enum side side, const void *bytes, size_t length);
 
 #endif

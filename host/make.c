@@ -45,18 +45,31 @@ static void put_contents(struct bytes *sheet, const unsigned count[4])
     }
 }
 
-// Opening counts around the least ones with which the plan runs, or far above.
+// An opening count: the least with which the plan runs, one less, any less, some more, or the greatest.
+static uint32_t draw_opening(uint32_t least, struct random *r)
+{
+    switch (random_below(r, 8)) {
+    case 0:
+        return least > 0 ? least - 1 : 0;
+    case 1:
+        return least > 0 ? random_below(r, least) : 0;
+    case 2:
+        return MAX_OPENING;
+    case 3:
+        return least + 1 + random_below(r, 8);
+    default:
+        return least;
+    }
+}
+
 static void set_openings(struct bytes *sheet, struct random *r)
 {
     static struct plan plan;
 
     if (plan_read(sheet->at, sheet->length, &plan) != 0)
         return;
-    for (unsigned p = 0; p < plan.places; p++) {
-        uint32_t least = independent_least(&plan, p, NULL), more = random_below(r, 8);
-        uint32_t opening = more == 0 ? (least > 0 ? least - 1 : 0) : more == 1 ? MAX_OPENING : least + (more > 5 ? more : 0);
-        set_word(sheet, 32 + 4 * p, opening);
-    }
+    for (unsigned p = 0; p < plan.places; p++)
+        set_word(sheet, 32 + 4 * p, draw_opening(independent_least(&plan, p, NULL), r));
 }
 
 // Pairs from lower to higher in a random numbering, each with the same chance.
@@ -84,10 +97,12 @@ static unsigned draw_pairs(struct random *r, unsigned events, uint16_t pairs[][2
 void make_short(struct bytes *sheet, struct random *r)
 {
     uint16_t pairs[64][2];
-    unsigned count[4] = {random_below(r, 5), 1 + random_below(r, 4), random_below(r, 9), 0};
+    unsigned count[4] = {random_below(r, 5), random_below(r, 16) == 0 ? 0 : 1 + random_below(r, 4), random_below(r, 9), 0};
     unsigned most = random_below(r, 2) == 0 ? 2 : random_below(r, 2) == 0 ? 4 : MAX_WEIGHT + 1;
 
     memset(pairs, 0, sizeof pairs);
+    if (count[1] == 0)
+        count[2] = 0; // since each event has a transition
     count[3] = draw_pairs(r, count[2], pairs);
     put_contents(sheet, count);
     for (unsigned p = 0; p < count[0]; p++)

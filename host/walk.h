@@ -6,7 +6,8 @@
 
 enum { WALK_EVENTS = 10 }; // the most events that it takes
 
-// The missing count of a place.
-uint32_t walk_missing(const struct plan *plan, unsigned place);
+// The least opening count with which the plan runs at a place. `done` gets a byte for each event: 1 for those that are in every done
+// set with the greatest lack, else 0.
+uint32_t walk_least(const struct plan *plan, unsigned place, uint8_t *done);
 
 #endif
