@@ -1,0 +1,174 @@
+// How much stack each call uses, on sheets at the limits of every kind: each is made on a stack of its own that is painted before and
+// scanned after. Fails where a call uses more than the header says is enough.
+#define _GNU_SOURCE
+#include <stdio.h>
+#include <stdlib.h>
+#include <string.h>
+#include <sys/mman.h>
+#include <ucontext.h>
+#include <unistd.h>
+
+#include "independent.h"
+#include "reedanchor.h"
+#include "sheets.h"
+
+enum { STACK_BYTES = 4 << 20, PAINT = 0xa5, NUMBERS = 2, PLACE_STEP = 9 };
+
+static struct sheet sheet;
+static size_t place;
+static uint32_t missing[REEDANCHOR_ROW_LENGTH], flow[REEDANCHOR_FLOW_LENGTH];
+static uint8_t marks[REEDANCHOR_MARKS_LENGTH], text[REEDANCHOR_TEXT_LENGTH];
+static uint32_t fault; // what the last call returned
+
+static void call_judge(void)
+{
+    fault = reedanchor_judge(sheet.bytes, sheet.length);
+}
+
+static void call_fault(void)
+{
+    uint32_t item;
+
+    fault = reedanchor_fault(sheet.bytes, sheet.length, &item);
+}
+
+static void call_plan(void)
+{
+    uint32_t item, total, short_places, first;
+
+    fault = reedanchor_plan(sheet.bytes, sheet.length, missing, REEDANCHOR_ROW_LENGTH, &item, &total, &short_places, &first);
+}
+
+static void call_place(void)
+{
+    uint32_t item;
+    int32_t spare;
+
+    fault = reedanchor_place(sheet.bytes, sheet.length, place, flow, REEDANCHOR_FLOW_LENGTH, marks, REEDANCHOR_MARKS_LENGTH, &item, &spare);
+}
+
+static void call_check_flow(void)
+{
+    uint32_t item, valid;
+
+    fault = reedanchor_check_flow(sheet.bytes, sheet.length, place, flow, REEDANCHOR_FLOW_LENGTH, &item, &valid);
+}
+
+static void call_listing(void)
+{
+    size_t written;
+
+    fault = reedanchor_listing(sheet.bytes, sheet.length, text, REEDANCHOR_TEXT_LENGTH, &written);
+}
+
+// The calls, in an order in which each is measured; the flow check gets the flow that the place judgement left.
+static struct {
+    const char *name;
+    void (*make)(void);
+    size_t enough, most; // bytes by the header, and the most used
+    int at_places;
+} calls[] = {
+    {"judge", call_judge, REEDANCHOR_STACK_JUDGE, 0, 0},
+    {"fault", call_fault, REEDANCHOR_STACK_FAULT, 0, 0},
+    {"plan", call_plan, REEDANCHOR_STACK_PLAN, 0, 0},
+    {"place", call_place, REEDANCHOR_STACK_PLACE, 0, 1},
+    {"check_flow", call_check_flow, REEDANCHOR_STACK_CHECK_FLOW, 0, 1},
+    {"listing", call_listing, REEDANCHOR_STACK_LISTING, 0, 0},
+};
+
+enum { CALLS = sizeof calls / sizeof *calls };
+
+static uint8_t *stack; // STACK_BYTES of it, above a forbidden page
+
+static void open_stack(void)
+{
+    size_t page = (size_t)sysconf(_SC_PAGESIZE);
+    uint8_t *all = mmap(NULL, STACK_BYTES + page, PROT_READ | PROT_WRITE, MAP_PRIVATE | MAP_ANONYMOUS, -1, 0);
+
+    if (all == MAP_FAILED || mprotect(all, page, PROT_NONE) != 0) {
+        perror("stack");
+        exit(2);
+    }
+    stack = all + page;
+    memset(stack, PAINT, STACK_BYTES);
+}
+
+// Makes a call on the painted stack. Returns how many bytes of it were used, and paints them again.
+static size_t used_by(void (*make)(void))
+{
+    ucontext_t caller, called;
+    size_t clean = 0;
+
+    if (getcontext(&called) != 0)
+        exit(2);
+    called.uc_stack.ss_sp = stack;
+    called.uc_stack.ss_size = STACK_BYTES;
+    called.uc_link = &caller;
+    makecontext(&called, make, 0);
+    if (swapcontext(&caller, &called) != 0)
+        exit(2);
+    while (clean < STACK_BYTES && stack[clean] == PAINT)
+        clean++;
+    memset(stack + clean, PAINT, STACK_BYTES - clean);
+    return STACK_BYTES - clean;
+}
+
+static void measure(unsigned call)
+{
+    size_t used = used_by(calls[call].make);
+
+    if (used > calls[call].most)
+        calls[call].most = used;
+    if (fault != 0 && (call != 0 || fault < REEDANCHOR_SHORT)) {
+        fprintf(stderr, "stack: %s refuses a sheet at the limits: %u\n", calls[call].name, fault);
+        exit(1);
+    }
+}
+
+// Places run with just enough tokens and are short of one by turns.
+static void set_openings(void)
+{
+    static struct plan plan;
+    uint32_t opening[MAX_PLACES];
+
+    if (plan_read(sheet.bytes, sheet.length, &plan) != 0)
+        exit(2);
+    for (unsigned p = 0; p < plan.places; p++) {
+        uint32_t least = independent_least(&plan, p, NULL);
+        opening[p] = least > 0 && p % 2 == 1 ? least - 1 : least;
+    }
+    sheet_set_openings(&sheet, opening, plan.places);
+}
+
+static void measure_all(void)
+{
+    for (unsigned call = 0; call < CALLS; call++)
+        if (!calls[call].at_places)
+            measure(call);
+    for (place = 0; place < MAX_PLACES; place += PLACE_STEP)
+        for (unsigned call = 0; call < CALLS; call++)
+            if (calls[call].at_places)
+                measure(call);
+}
+
+int main(void)
+{
+    int enough = 1;
+
+    open_stack();
+    for (unsigned kind = 0; kind < kind_count; kind++)
+        for (unsigned number = 0; number < NUMBERS; number++) {
+            sheet_of_kind(&sheet, &kinds[kind], number);
+            set_openings();
+            measure_all();
+        }
+    printf("bytes of stack, at most, on %u sheets at the limits:", kind_count * NUMBERS);
+    for (unsigned call = 0; call < CALLS; call++) {
+        printf("%s %s %zu of %zu", call == 0 ? "" : ",", calls[call].name, calls[call].most, calls[call].enough);
+        enough = enough && calls[call].most <= calls[call].enough;
+    }
+    printf("\n");
+    if (!enough)
+        fprintf(stderr, "stack: a call uses more than include/reedanchor.h says is enough\n");
+    return enough ? 0 : 1;
+}
