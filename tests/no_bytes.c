@@ -1,15 +1,39 @@
-/* No bytes at all are fault 1: at a null pointer, and at the end of an array that must not be read. */
+/* Sheets and rows of length 0, at null pointers and at the end of memory that must not be read, in every call. */
 #include <stdlib.h>
 
 #include "reedanchor.h"
 
+/* A sheet without items: it needs no row but the listing's. */
+static const uint8_t no_items[REEDANCHOR_TABLE_BYTES] = {[0] = 32, [8] = 32, [16] = 32, [24] = 32};
+
+/* What the calls return with rows of length 0 at these pointers; the single numbers are 0 in every case. */
+static int refuse(const uint8_t *sheet, size_t length, uint32_t *numbers, uint8_t *bytes, uint32_t sheet_fault)
+{
+    uint32_t judge, fault, plan, place, check, listing, item[4] = {1, 1, 1, 1}, total = 1, short_places = 1, first = 1, valid = 1;
+    uint32_t place_fault = sheet_fault != 0 ? sheet_fault : REEDANCHOR_NO_PLACE;
+    int32_t spare = 1;
+    size_t written = 1;
+
+    judge = reedanchor_judge(sheet, length);
+    fault = reedanchor_fault(sheet, length, &item[0]);
+    plan = reedanchor_plan(sheet, length, numbers, 0, &item[1], &total, &short_places, &first);
+    place = reedanchor_place(sheet, length, 0, numbers, 0, bytes, 0, &item[2], &spare);
+    check = reedanchor_check_flow(sheet, length, 0, numbers, 0, &item[3], &valid);
+    listing = reedanchor_listing(sheet, length, bytes, 0, &written);
+    return judge == sheet_fault && fault == sheet_fault && plan == sheet_fault && place == place_fault && check == place_fault &&
+           listing == REEDANCHOR_SHORT_ROW && (item[0] | item[1] | item[2] | item[3] | total | short_places | first | valid) == 0 && spare == 0 &&
+           written == 0;
+}
+
 int main(void)
 {
-    uint8_t *end = malloc(1);
-    if (end == NULL)
+    uint32_t *numbers = malloc(sizeof *numbers);
+    uint8_t *bytes = malloc(1);
+    if (numbers == NULL || bytes == NULL)
         return 2;
-    uint32_t at_null = reedanchor_judge(NULL, 0);
-    uint32_t at_end = reedanchor_judge(end + 1, 0);
-    free(end);
-    return at_null == REEDANCHOR_NO_TABLE && at_end == REEDANCHOR_NO_TABLE ? 0 : 1;
+    int due = refuse(NULL, 0, NULL, NULL, REEDANCHOR_NO_TABLE) && refuse(bytes + 1, 0, numbers + 1, bytes + 1, REEDANCHOR_NO_TABLE) &&
+              refuse(no_items, sizeof no_items, NULL, NULL, 0) && refuse(no_items, sizeof no_items, numbers + 1, bytes + 1, 0);
+    free(numbers);
+    free(bytes);
+    return due ? 0 : 1;
 }
