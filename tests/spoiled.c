@@ -1,9 +1,11 @@
-/* Stands between the comparison of host/ and both judges, and spoils the one thing that the environment's SPOILED names. */
+/* Stands between the programs of host/ and both judges, and spoils the one thing that the environment's SPOILED names. */
+#define _GNU_SOURCE
 #include "independent.h"
 #include "reedanchor.h"
 
 #include <stdlib.h>
 #include <string.h>
+#include <unistd.h>
 
 /* The linker's names: by --wrap a call of `name` goes to `__wrap_name`, and one of `__real_name` to what it was. */
 #define REAL(name) __real_##name
@@ -28,6 +30,14 @@ static int spoils(const char *thing)
 static void touch(const volatile uint8_t *at)
 {
     (void)*at;
+}
+
+static void use_all_the_stack(void)
+{
+    volatile uint8_t all[REEDANCHOR_STACK_FAULT];
+
+    all[0] = 0;
+    touch(all);
 }
 
 uint32_t WRAP(reedanchor_judge)(const uint8_t *sheet, size_t length)
@@ -61,6 +71,10 @@ uint32_t WRAP(reedanchor_fault)(const uint8_t *sheet, size_t length, uint32_t *i
         *item = kept;
     if (spoils("fault: item of 64 bits"))
         item[1] = 0;
+    if (spoils("fault: an item in other threads") && gettid() != getpid())
+        *item = 1;
+    if (spoils("fault: more stack"))
+        use_all_the_stack();
     if (spoils("fault: 15 for 14") && answer == REEDANCHOR_LATE_BODY)
         return REEDANCHOR_EARLY_BODY;
     return answer;
