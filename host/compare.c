@@ -82,7 +82,7 @@ int main(int words, char **word)
 {
     static struct bytes sheet;
     static struct trial trial;
-    unsigned long few = words > 1 ? strtoul(word[1], NULL, 10) : 4000, many = words > 2 ? strtoul(word[2], NULL, 10) : 80;
+    unsigned long few = words > 1 ? strtoul(word[1], NULL, 10) : 8000, many = words > 2 ? strtoul(word[2], NULL, 10) : 160;
     struct tally tally = {0};
     struct random r = {7};
 
