@@ -1,16 +1,5 @@
-#!/usr/bin/env python3
-"""Writes crates/faults_test/stdin and stdout: cases for the faults of a sheet, and the number and item of each one's fault.
-
-usage: fault_cases.py [DIRECTORY]
-
-The faults are worked out by tests/separate.py, straight from the documents, and share nothing with the code under test: a
-pair given twice is found among all those above it, a cycle by taking events away that nothing left is before. Each case also
-names the number and item that its builder means to show, and the script stops where the two differ. Only of drawn sheets nothing is
-named.
-"""
-import os
+"""Sheets for tests/faults: each with the number and item of the fault that its builder means to show, None for drawn ones, and a name."""
 import struct
-import sys
 from itertools import combinations
 
 import separate
@@ -363,20 +352,4 @@ GROUPS = (small_examples, limits, last_items, first_items, two_faults, truncatio
 
 def cases():
     for group in GROUPS:
-        for meant, name, sheet in group():
-            found = separate.fault(sheet)
-            if meant not in (None, found):
-                sys.exit("%s: fault %d with item %d is meant, and the documents say %d with %d" % (name, *meant, *found))
-            yield found, name.encode(), sheet
-
-
-def main():
-    here = os.path.dirname(os.path.abspath(__file__))
-    directory = sys.argv[1] if len(sys.argv) > 1 else os.path.join(here, "..", "crates", "faults_test")
-    with open(os.path.join(directory, "stdin"), "wb") as given, open(os.path.join(directory, "stdout"), "wb") as expected:
-        for found, name, sheet in cases():
-            given.write(struct.pack("<BH", len(name), len(sheet)) + name + sheet)
-            expected.write(b"%d %d %s\n" % (*found, name))
-
-
-main()
+        yield from group()

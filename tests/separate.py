@@ -376,7 +376,11 @@ def listing(sheet):
     if found != NO_FAULT:
         return "refused %d\n" % found.number
     plan = read(sheet)
-    answers = [plan.judge(p) for p in range(plan.places)]
+    return listing_of(plan, [plan.judge(p) for p in range(plan.places)])
+
+
+def listing_of(plan, answers):
+    """The listing of a plan whose places are judged."""
     lines = ["plan events %d pairs %d free %d" % (plan.events, len(plan.pairs), plan.free)]
     for p, answer in enumerate(answers):
         lines.append("place %d open %d end %d spare %d" % (p, plan.opening[p], plan.end(p), answer.spare))
