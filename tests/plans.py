@@ -52,6 +52,33 @@ short 1 total 1
 first 0 done none
 """
 
+# the listings of the sheets in examples/, by hand
+EXAMPLES = {
+    "hold_sell": LISTING,
+    "double_sale": """\
+plan events 3 pairs 2 free 1
+place 0 open 0 end -1 spare -1
+place 1 open 0 end 2 spare 0
+short 1 total 1
+first 0 done 0
+""",
+    "hold_release_sell": """\
+plan events 5 pairs 4 free 0
+place 0 open 1 end 0 spare 0
+place 1 open 0 end 0 spare 0
+place 2 open 0 end 1 spare 0
+short 0 total 0
+runs
+""",
+    "seventh": """\
+plan events 3 pairs 1 free 2
+place 0 open 1 end 0 spare 0
+short 0 total 0
+runs
+""",
+    "cycle": "refused 11\n",
+}
+
 
 def close_pairs(count):
     """Different pairs (a, b) of 256 events with a below b, the closest first."""
