@@ -86,7 +86,7 @@ enum {
 
     /* Faults of a call on a sheet that has none. */
     REEDANCHOR_NO_PLACE = 12,  /* the place number isn't in the net */
-    REEDANCHOR_SHORT_ROW = 13, /* a row is too short */
+    REEDANCHOR_SHORT_ROW = 13, /* a lent row is too short */
 
     /* From reedanchor_judge alone: the plan is short. This plus the number of the first place where something is missing, so 1,000 to 1,063. */
     REEDANCHOR_SHORT = 1000

@@ -89,7 +89,7 @@ FAULTS = {
     10: ("a pair given twice", "pair"),
     11: ("the order has a cycle", None),
     12: ("the place number isn't in the net", None),
-    13: ("a row is too short", None),
+    13: ("a lent row is too short", None),
 }
 
 _SHEET, _NUMBER, _WORDS, _BYTES, _SIZE = (
