@@ -1,11 +1,11 @@
 -- What the till server's numbers say: 0 that the plan runs, 1,000 to 1,063 the first short place, and any other the sheet's fault, which is
--- never 13.
+-- never 13. And what the numbers of the plan judgement say that C gets.
 use Prim.Native.Nat.{ℕ, _+_, _<_}
 use native.Mathlib.Nat.{eq-zero-or-pos}
 use native.Mathlib.Omega.{arith}
 use mathlib.Core.List.{List}
 use mathlib.Core.Logic.{_↔_, ⊎-elim}
-use mathlib.Core.Path.{_≡_, sym, ap, _∙_}
+use mathlib.Core.Path.{_≡_, sym, ap, subst, _∙_}
 use lib.Dec.{T}
 use Rattle.plan.specs.Prefix.{runs}
 use Rattle.place.specs.Place.{missingAt}
@@ -14,11 +14,12 @@ use Rattle.sheet.specs.Items.{netOf, planOf}
 use Rattle.sheet.specs.Faults.{faultOf}
 use Rattle.sheet.specs.Faultless.{faultless}
 use Rattle.sheet.specs.Located.{fault-most, fault-not-13}
-use Rattle.calls.specs.Said.{said-answer, said-refusal}
-use Rattle.summary.specs.Summary.{firstShort, shortNumber, valuesOf}
-use Rattle.summary.specs.Laws.{FirstIn, verdict-fits, short-number, not-13}
-use Rattle.plan_judgement.specs.Judgement.{planValues}
+use Rattle.calls.specs.Said.{Said, answer, said-answer, said-refusal}
+use Rattle.summary.specs.Summary.{PlanValues, shortPlaces, firstShort, shortNumber, firstPlace, valuesOf}
+use Rattle.summary.specs.Laws.{FirstIn, verdict-fits, short-number, not-13, none-short, first-told, runs-number}
+use Rattle.plan_judgement.specs.Judgement.{planFault, planValues, planSays}
 use Rattle.plan_judgement.specs.Laws.{runs-told}
+use Rattle.reedanchor.specs.ForC.{PlanTold, firstSaid, valueOr}
 use Rattle.reedanchor.specs.Till.{numberSaid, tillAnswer, answersBelow}
 
 module _ (s : List ℕ) where
@@ -60,3 +61,42 @@ module _ (s : List ℕ) where
       by-fault
       (λ clear. not-13 (missingAt s) (placesOf s) (sym (till-taken clear) ∙ e))
       (λ there. fault-not-13 s (sym (till-refused (λ clear. omega arith)) ∙ e))
+
+-- Where the plan judgement returns 0,
+module _ (s row : List ℕ) (item total short first : ℕ) (told : PlanTold (planSays s row) 0 item total short first) where
+  taken : planFault s row .number ≡ 0
+  unfolding planSays
+  taken =
+      ⊎-elim
+      (λ clear. clear)
+      (λ there.
+      let refused = said-refusal (planFault s row) (planValues s) (λ clear. omega arith) in
+      absurd (omega (arith, told .faulty .0, ap (λ (said : Said PlanValues). said .fault .number) refused)))
+      (eq-zero-or-pos (planFault s row .number))
+
+  says-values : planSays s row ≡ answer (planValues s)
+  unfolding planSays
+  says-values = said-answer (planFault s row) (planValues s) taken
+
+  short-is : short ≡ shortPlaces (missingAt s) (placesOf s)
+  unfolding planValues valuesOf
+  short-is = told .places ∙ ap (λ (said : Said PlanValues). valueOr 0 (λ (v : PlanValues). v .short) (said .values)) says-values
+
+  first-is : first ≡ firstPlace (firstShort (missingAt s) (placesOf s))
+  unfolding planValues valuesOf
+  first-is = told .earliest ∙ ap firstSaid says-values
+
+  -- no short place says that the plan runs,
+  pub no-short-place : (short ≡ 0) ↔ T (runs (netOf s) (planOf s))
+  unfolding planValues valuesOf
+  no-short-place =
+      let none = none-short (missingAt s) (placesOf s) in
+      let nothing = runs-number (missingAt s) (placesOf s) in (
+        λ e. runs-told s .0 (nothing .1 (none .0 (sym short-is ∙ e))),
+        λ t. short-is ∙ none .1 (nothing .0 (runs-told s .1 t)),
+      )
+
+  -- and where some place is short, the first of them is told.
+  pub first-place-told : 0 < short → FirstIn (missingAt s) (placesOf s) first
+  first-place-told some-short =
+      subst (FirstIn (missingAt s) (placesOf s)) (sym first-is) (first-told (missingAt s) (placesOf s) (omega (arith, short-is)))

@@ -1,18 +1,20 @@
 -- What the verdict says, and that counts which agree come to the same.
 use Prim.Native.Nat.{ℕ, _+_, _≤_, _<_}
 use native.Mathlib.Omega.{arith}
+use mathlib.Core.Bool.{Bool}
 use mathlib.Core.Logic.{_↔_, ⊎-elim}
 use mathlib.Core.Option.{Option, none, some}
 use mathlib.Core.Path.{_≡_, refl, sym, ap, subst, _∙_}
-use borrow.Author.Tests.{ltb-true, ltb-false}
+use borrow.Author.Tests.{ltb-true, ltb-false, lt-ltb, le-ltb}
 use lib.Dec.{ltb, ltb→lt, nltb→le}
 use Rattle.finite.specs.Bounded.{decide}
 use Rattle.finite.specs.First.{first-is, first-none, first-ext}
-use Rattle.finite.specs.Sum.{on, sum-ext}
+use Rattle.finite.specs.Sum.{on, sum-ext, sum-term, sum-zero}
 use Rattle.summary.specs.declared.Totals.{Totals}
 use Rattle.summary.specs.declared.Verdict.{Verdict}
 use Rattle.summary.specs.declared.Verdict.the-variants.{Runs, Short}
-use Rattle.summary.specs.Summary.{totalMissing, shortPlaces, firstShort, verdictNumber, verdictCount, shortNumber, shortCount, firstPlace, verdictPlace, VerdictOf, PlanValues, valuesIn, valuesOf}
+use Rattle.summary.specs.Summary.{totalMissing, shortPlaces, firstShort, verdictNumber, verdictCount, verdictPlace}
+use Rattle.summary.specs.Summary.{shortNumber, shortCount, firstPlace, VerdictOf, PlanValues, valuesIn, valuesOf}
 
 -- The place q is the first short one,
 pub record IsFirst (missing : ℕ → ℕ) (q : ℕ) : Type 0 where
@@ -114,6 +116,35 @@ module _ (missing : ℕ → ℕ) (n : ℕ) where
   -- The place that is told is one of the n, or 0,
   pub first-fits : firstPlace (firstShort missing n) ≤ n
   first-fits = place-fits (firstShort missing n) (says-by (firstShort missing n) refl)
+
+  counted : (p : ℕ) → p < n → shortPlaces missing n ≡ 0 → missing p ≡ 0
+  unfolding shortPlaces
+  counted p l e =
+      ⊎-elim
+      (λ t.
+      absurd (omega (arith, sum-term n (λ q. on (ltb 0 (missing q)) 1) p l, ap (λ (b : Bool). on b 1) (lt-ltb 0 (missing p) (ltb→lt 0 (missing p) t)))))
+      (λ t. omega (arith, nltb→le 0 (missing p) t))
+      (decide (ltb 0 (missing p)))
+
+  -- no place is short exactly if nothing is missing at any,
+  pub none-short : (shortPlaces missing n ≡ 0) ↔ ((p : ℕ) → p < n → missing p ≡ 0)
+  unfolding shortPlaces
+  none-short = (
+    λ e p l. counted p l e,
+    λ nothing. sum-zero n _ (λ p l. ap (λ (b : Bool). on b 1) (le-ltb 0 (missing p) (omega (arith, nothing p l)))),
+  )
+
+  place-in : (o : Option ℕ) → FirstSays o → ¬ ((p : ℕ) → p < n → missing p ≡ 0) → FirstIn missing n (firstPlace o)
+  place-in none h lacks = absurd (lacks h)
+  place-in (some q) h lacks = h
+
+  -- and where one is, the place that is told is the first of them;
+  pub first-told : 0 < shortPlaces missing n → FirstIn missing n (firstPlace (firstShort missing n))
+  first-told some-short =
+      place-in
+      (firstShort missing n)
+      (says-by (firstShort missing n) refl)
+      (λ nothing. omega (arith, none-short .1 nothing))
 
   place-by : (v : Verdict) (o : Option ℕ) → verdictNumber v ≡ shortNumber o → verdictPlace v ≡ firstPlace o
   place-by Runs none number = refl

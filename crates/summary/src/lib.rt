@@ -4,7 +4,8 @@ ghost use mathlib.Core.Path.{_≡_};
 ghost use lib.ListN.{length};
 ghost use Rattle.ids.specs.Lent.{was};
 ghost use Rattle.ids.specs.Limits.{mostPlaces};
-ghost use Rattle.summary.specs.Summary.{totalMissing, shortPlaces, VerdictOf, NextVerdict, verdictNumber, verdictPlace, valuesIn, valuesOf, countAt, MissingCounts};
+ghost use Rattle.summary.specs.Summary.{totalMissing, shortPlaces, countAt, MissingCounts, valuesIn, valuesOf};
+ghost use Rattle.summary.specs.Summary.{VerdictOf, NextVerdict, verdictNumber, verdictPlace};
 use ids::Place;
 
 // A plan runs, or is short at a first place by a missing count.
