@@ -15,9 +15,9 @@ use Rattle.summary.specs.Summary.{PlanValues}
 abbrev pub Pointer : Type 0 → Type 0
 Pointer A = Both (RefT A) (RefT A)
 
--- what stands there at exit
-abbrev pub left : {A : Type 0} → Pointer A → A
-left pointer = now (pointer .exit)
+-- what stands there at return
+abbrev pub atReturn : {A : Type 0} → Pointer A → A
+atReturn pointer = now (pointer .exit)
 
 -- one of an answer's values, or what stands for it where there are none
 abbrev pub valueOr : {A B : Type 0} → B → (A → B) → Option A → B

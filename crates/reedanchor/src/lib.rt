@@ -5,7 +5,7 @@ ghost use Rattle.ids.specs.Lent.{was, is};
 ghost use Rattle.listed.specs.Listed.{listSays, rowAfter};
 ghost use Rattle.place_judgement.specs.Judgement.{judgementSays, Handed, marksAfter};
 ghost use Rattle.plan_judgement.specs.Judgement.{planSays, rowOf};
-ghost use Rattle.reedanchor.specs.ForC.{left, FaultTold, PlanTold, PlaceTold, CheckTold, ListingTold};
+ghost use Rattle.reedanchor.specs.ForC.{atReturn, FaultTold, PlanTold, PlaceTold, CheckTold, ListingTold};
 ghost use Rattle.reedanchor.specs.Till.{tillAnswer};
 ghost use Rattle.sheet.specs.Faults.{faultOf};
 use fault::fault_of;
@@ -38,7 +38,7 @@ pub extern "C" fn reedanchor_judge(sheet: &[u8]) -> u32
 // The fault of a sheet.
 #[no_mangle]
 pub extern "C" fn reedanchor_fault(sheet: &[u8], item: &mut u32) -> u32
-    ensures { λ r. ⌜ FaultTold (faultOf (was sheet)) r (left item) ⌝ }
+    ensures { λ r. ⌜ FaultTold (faultOf (was sheet)) r (atReturn item) ⌝ }
 {
     let f = fault_of(sheet);
     tell_fault(f, item)
@@ -54,7 +54,7 @@ pub extern "C" fn reedanchor_plan(
     short: &mut u32,
     first: &mut u32,
 ) -> u32
-    ensures { λ r. ⌜ PlanTold (planSays (was sheet) (was row)) r (left item) (left total) (left short) (left first) ⌝ }
+    ensures { λ r. ⌜ PlanTold (planSays (was sheet) (was row)) r (atReturn item) (atReturn total) (atReturn short) (atReturn first) ⌝ }
     ensures { λ _. ⌜ is row ≡ rowOf (was sheet) (was row) ⌝ }
 {
     let a = judge_plan(sheet, row);
@@ -71,7 +71,7 @@ pub extern "C" fn reedanchor_place(
     item: &mut u32,
     spare: &mut i32,
 ) -> u32
-    ensures { λ r. ⌜ PlaceTold (judgementSays (was sheet) (place .0) (was flow) (was marks)) r (left item) (left spare) ⌝ }
+    ensures { λ r. ⌜ PlaceTold (judgementSays (was sheet) (place .0) (was flow) (was marks)) r (atReturn item) (atReturn spare) ⌝ }
     ensures { λ _. ⌜ is marks ≡ marksAfter (was sheet) (place .0) (was flow) (was marks) ⌝ }
     ensures { λ _. ⌜ Handed (was sheet) (place .0) (was flow) (was marks) (is flow) ⌝ }
 {
@@ -88,7 +88,7 @@ pub extern "C" fn reedanchor_check_flow(
     item: &mut u32,
     valid: &mut u32,
 ) -> u32
-    ensures { λ r. ⌜ CheckTold (checkSays (was sheet) (place .0) (was flow)) r (left item) (left valid) ⌝ }
+    ensures { λ r. ⌜ CheckTold (checkSays (was sheet) (place .0) (was flow)) r (atReturn item) (atReturn valid) ⌝ }
 {
     let c = check_flow(sheet, place, flow);
     tell_check(c, item, valid)
@@ -97,7 +97,7 @@ pub extern "C" fn reedanchor_check_flow(
 // The listing.
 #[no_mangle]
 pub extern "C" fn reedanchor_listing(sheet: &[u8], text: &mut [u8], written: &mut usize) -> u32
-    ensures { λ r. ⌜ ListingTold (listSays (was sheet) (was text)) r (left written) ⌝ }
+    ensures { λ r. ⌜ ListingTold (listSays (was sheet) (was text)) r (atReturn written) ⌝ }
     ensures { λ _. ⌜ is text ≡ rowAfter (was sheet) (was text) ⌝ }
 {
     let l = write_listing(sheet, text);

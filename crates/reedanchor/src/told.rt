@@ -6,7 +6,7 @@ ghost use Rattle.ids.specs.Limits.{mostPlaces};
 ghost use Rattle.listed.specs.Listed.{says as saysListed};
 ghost use Rattle.place_judgement.specs.Judgement.{says as saysJudged};
 ghost use Rattle.plan_judgement.specs.Judgement.{says};
-ghost use Rattle.reedanchor.specs.ForC.{left, firstSaid, FaultTold, PlanTold, PlaceTold, CheckTold, ListingTold};
+ghost use Rattle.reedanchor.specs.ForC.{atReturn, firstSaid, FaultTold, PlanTold, PlaceTold, CheckTold, ListingTold};
 ghost use Rattle.reedanchor.specs.Till.{answersBelow, numberSaid};
 use flowcheck::Checked;
 use listed::Listed;
@@ -33,7 +33,7 @@ pub fn answer_number(a: Answer) -> u32
 
 // A fault, or that there is none.
 pub fn tell_fault(f: Fault, item: &mut u32) -> u32
-    ensures { λ r. ⌜ FaultTold f r (left item) ⌝ }
+    ensures { λ r. ⌜ FaultTold f r (atReturn item) ⌝ }
 {
     let number = f.number;
     *item = f.item;
@@ -49,7 +49,7 @@ pub fn tell_plan(
     first: &mut u32,
 ) -> u32
     requires { ⌜ firstSaid (says a) ≤ mostPlaces ⌝ }
-    ensures { λ r. ⌜ PlanTold (says a) r (left item) (left total) (left short) (left first) ⌝ }
+    ensures { λ r. ⌜ PlanTold (says a) r (atReturn item) (atReturn total) (atReturn short) (atReturn first) ⌝ }
 {
     match a {
         Answer::Refused(f) => {
@@ -70,7 +70,7 @@ pub fn tell_plan(
 
 // What the place judgement says.
 pub fn tell_place(j: Judgement, item: &mut u32, spare: &mut i32) -> u32
-    ensures { λ r. ⌜ PlaceTold (saysJudged j) r (left item) (left spare) ⌝ }
+    ensures { λ r. ⌜ PlaceTold (saysJudged j) r (atReturn item) (atReturn spare) ⌝ }
 {
     match j {
         Judgement::Refused(f) => {
@@ -86,7 +86,7 @@ pub fn tell_place(j: Judgement, item: &mut u32, spare: &mut i32) -> u32
 
 // What the flow check says.
 pub fn tell_check(c: Checked, item: &mut u32, valid: &mut u32) -> u32
-    ensures { λ r. ⌜ CheckTold (saysChecked c) r (left item) (left valid) ⌝ }
+    ensures { λ r. ⌜ CheckTold (saysChecked c) r (atReturn item) (atReturn valid) ⌝ }
 {
     *valid = 0;
     match c {
@@ -101,7 +101,7 @@ pub fn tell_check(c: Checked, item: &mut u32, valid: &mut u32) -> u32
 
 // What the listing's call says.
 pub fn tell_listing(l: Listed, written: &mut usize) -> u32
-    ensures { λ r. ⌜ ListingTold (saysListed l) r (left written) ⌝ }
+    ensures { λ r. ⌜ ListingTold (saysListed l) r (atReturn written) ⌝ }
 {
     match l {
         Listed::Refused(f) => {
