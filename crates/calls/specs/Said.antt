@@ -48,6 +48,15 @@ module _ {A : Type 0} where
   unfolding unlessRefused
   said-refusal f x there = by-some (f .number) f x there
 
+  by-fault : (k : ℕ) (f : Fault) (x : A) → k ≡ f .number → byNumber k f x .fault .number ≡ 0 → f .number ≡ 0
+  by-fault zero f x same e = sym same
+  by-fault (suc k) f x same e = e
+
+  -- where no fault is said, there is none
+  pub said-clear : (f : Fault) (x : A) → unlessRefused f x .fault .number ≡ 0 → f .number ≡ 0
+  unfolding unlessRefused
+  said-clear f x e = by-fault (f .number) f x refl e
+
   -- a refusal with the number and the item that are due is what has to be said
   pub told-refusal : {f g : Fault} (x : A) → f .number ≡ g .number → f .item ≡ g .item → ¬ (g .number ≡ 0) → refusal f ≡ unlessRefused g x
   told-refusal {f} {g} x number item there = ap refusal (same-fault f g number item) ∙ sym (said-refusal g x there)

@@ -3,8 +3,8 @@ use Prim.Native.Nat.{ℕ, _<_}
 use native.Mathlib.Omega.{arith}
 use mathlib.Core.List.{List}
 use mathlib.Core.Option.{some}
-use mathlib.Core.Path.{_≡_, sym, ap, subst, _∙_}
-use lib.IntN.{ℤ, negℤ}
+use mathlib.Core.Path.{_≡_, refl, sym, ap, subst, _∙_}
+use lib.IntN.{ℤ, pos, negℤ}
 use lib.ListN.{getD}
 use Rattle.plan.specs.Prefix.{above0, missing}
 use Rattle.theory.specs.Spare.{missing-spare}
@@ -15,7 +15,7 @@ use Rattle.sheet.specs.Items.{netOf, planOf}
 use Rattle.calls.specs.Call.{placeFault, row-known, place-known}
 use Rattle.calls.specs.FlowRow.{flowFault, flowLength}
 use Rattle.calls.specs.Overwritten.{overwritten, over-first, at-none}
-use Rattle.calls.specs.Said.{Said, unlessRefused, values-said, values-clear}
+use Rattle.calls.specs.Said.{Said, answer, unlessRefused, values-said, values-clear, said-answer, said-clear}
 use Rattle.ids.specs.declared.Place.{Place}
 use Rattle.place.specs.Place.{missingAt, spareAt}
 use Rattle.summary.specs.declared.Totals.{Totals}
@@ -23,9 +23,12 @@ use Rattle.summary.specs.declared.Verdict.the-variants.{Short}
 use Rattle.summary.specs.Laws.{VerdictSays, verdict-says}
 use Rattle.summary.specs.Summary.{VerdictOf, PlanValues, valuesIn, valuesOf}
 use Rattle.place_judgement.specs.declared.Judgement.{Judgement}
+use Rattle.place_judgement.specs.declared.Judgement.the-variants.{Spare}
 use Rattle.place_judgement.specs.Judgement.{says, judgeFault, judgementSays}
 use Rattle.plan_judgement.specs.declared.Answer.the-variants.{Judged}
 use Rattle.plan_judgement.specs.Judgement.{planFault, planValues, planSays, rowOf, says as saysPlan}
+use Rattle.reedanchor.specs.ForC.{PlanTold, PlaceTold, valueOr}
+use Rattle.reedanchor.specs.Laws.{taken}
 
 -- A plan is taken if its sheet has no fault of its own.
 abbrev pub Taken : List ℕ → Type 0
@@ -49,6 +52,19 @@ pub data Returned (s : List ℕ) : ℕ → ℕ → Type 0 where
   -- and, for the first short place, the count in its verdict
   by-verdict : (p : Place) (m : ℕ) (row : List ℕ) (totals : Totals) → saysPlan (Judged totals) ≡ planSays s row → totals .verdict ≡ Short p m
       → Returned s (p .0) m
+
+-- C gets the same counts: where the place judgement returns 0, the spare count behind the pointer is one that is given,
+pub spare-in-c : (s : List ℕ) (p : ℕ) (flow marks : List ℕ) (item : ℕ) (z : ℤ) → PlaceTold (judgementSays s p flow marks) 0 item z → SpareReturned s p z
+unfolding judgementSays
+spare-in-c s p flow marks item z told =
+    let clear = said-clear (judgeFault s p flow marks) (spareAt s p) (sym (told .faulty .0)) in
+    let due = said-answer (judgeFault s p flow marks) (spareAt s p) clear in
+    let is : z ≡ spareAt s p = told .count ∙ ap (λ (said : Said ℤ). valueOr (pos 0) (λ (y : ℤ). y) (said .values)) due in
+    record { flow = flow; marks = marks; answer = Spare z; told = ap (λ (y : ℤ). answer y) is ∙ sym due; values = refl }
+
+-- and where the plan judgement does, each place's number in the row is.
+pub count-in-c : (s row : List ℕ) (item total short first : ℕ) → PlanTold (planSays s row) 0 item total short first → (p : ℕ) → p < placesOf s → Returned s p (getD (rowOf s row) p 0)
+count-in-c s row item total short first told p place = by-row p row (taken s row item total short first told) place
 
 -- the totals that the plan judgement answers with have the values that are due
 pub totals-are : (s row : List ℕ) (totals : Totals) → saysPlan (Judged totals) ≡ planSays s row → VerdictOf (missingAt s) (placesOf s) (totals .verdict)

@@ -14,7 +14,7 @@ use Rattle.sheet.specs.Items.{netOf, planOf}
 use Rattle.sheet.specs.Faults.{faultOf}
 use Rattle.sheet.specs.Faultless.{faultless}
 use Rattle.sheet.specs.Located.{fault-most, fault-not-13}
-use Rattle.calls.specs.Said.{Said, answer, said-answer, said-refusal}
+use Rattle.calls.specs.Said.{Said, answer, said-answer, said-refusal, said-clear}
 use Rattle.summary.specs.Summary.{PlanValues, shortPlaces, firstShort, shortNumber, firstPlace, valuesOf}
 use Rattle.summary.specs.Laws.{FirstIn, verdict-fits, short-number, not-13, none-short, first-told, runs-number}
 use Rattle.plan_judgement.specs.Judgement.{planFault, planValues, planSays}
@@ -64,15 +64,9 @@ module _ (s : List ℕ) where
 
 -- Where the plan judgement returns 0,
 module _ (s row : List ℕ) (item total short first : ℕ) (told : PlanTold (planSays s row) 0 item total short first) where
-  taken : planFault s row .number ≡ 0
+  pub taken : planFault s row .number ≡ 0
   unfolding planSays
-  taken =
-      ⊎-elim
-      (λ clear. clear)
-      (λ there.
-      let refused = said-refusal (planFault s row) (planValues s) (λ clear. omega arith) in
-      absurd (omega (arith, told .faulty .0, ap (λ (said : Said PlanValues). said .fault .number) refused)))
-      (eq-zero-or-pos (planFault s row .number))
+  taken = said-clear (planFault s row) (planValues s) (sym (told .faulty .0))
 
   says-values : planSays s row ≡ answer (planValues s)
   unfolding planSays
