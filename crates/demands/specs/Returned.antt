@@ -27,7 +27,7 @@ use Rattle.place_judgement.specs.declared.Judgement.the-variants.{Spare}
 use Rattle.place_judgement.specs.Judgement.{says, judgeFault, judgementSays}
 use Rattle.plan_judgement.specs.declared.Answer.the-variants.{Judged}
 use Rattle.plan_judgement.specs.Judgement.{planFault, planValues, planSays, rowOf, says as saysPlan}
-use Rattle.reedanchor.specs.ForC.{PlanTold, PlaceTold, valueOr}
+use Rattle.answers.specs.ForC.{PlanTold, PlaceTold, valueOr}
 use Rattle.reedanchor.specs.Laws.{taken}
 
 -- A plan is taken if its sheet has no fault of its own.

@@ -1,2 +1,1 @@
 pub mod PlanSaid
-pub mod Same

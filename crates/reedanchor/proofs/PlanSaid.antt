@@ -18,7 +18,7 @@ use Rattle.plan_judgement.specs.Judgement.{planFault, planValues, planSays}
 use Rattle.place.specs.Place.{missingAt}
 use Rattle.summary.specs.Laws.{first-fits}
 use Rattle.summary.specs.Summary.{valuesOf}
-use Rattle.reedanchor.specs.ForC.{firstSaid}
+use Rattle.answers.specs.ForC.{firstSaid}
 use Rattle.reedanchor.specs.Till.{numberSaid, tillAnswer}
 
 module _ (s row : List ℕ) (long : mostPlaces ≤ length row) where

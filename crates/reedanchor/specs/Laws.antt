@@ -19,7 +19,7 @@ use Rattle.summary.specs.Summary.{PlanValues, shortPlaces, firstShort, shortNum
 use Rattle.summary.specs.Laws.{FirstIn, verdict-fits, short-number, not-13, none-short, first-told, runs-number}
 use Rattle.plan_judgement.specs.Judgement.{planFault, planValues, planSays}
 use Rattle.plan_judgement.specs.Laws.{runs-told}
-use Rattle.reedanchor.specs.ForC.{PlanTold, firstSaid, valueOr}
+use Rattle.answers.specs.ForC.{PlanTold, firstSaid, valueOr}
 use Rattle.reedanchor.specs.Till.{numberSaid, tillAnswer, answersBelow}
 
 module _ (s : List ℕ) where

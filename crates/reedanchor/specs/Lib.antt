@@ -1,3 +1,2 @@
 pub mod Till
-pub mod ForC
 pub mod Laws

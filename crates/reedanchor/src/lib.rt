@@ -1,29 +1,42 @@
 // The open calls for C: pointers and lengths for the bytes and rows that are lent, and the answer told in numbers.
+ghost use Prim.Native.Nat.{_<_};
 ghost use mathlib.Core.Path.{_≡_};
 ghost use Rattle.flowcheck.specs.Checked.{checkSays};
 ghost use Rattle.ids.specs.Lent.{was, is};
 ghost use Rattle.listed.specs.Listed.{listSays, rowAfter};
 ghost use Rattle.place_judgement.specs.Judgement.{judgementSays, Handed, marksAfter};
-ghost use Rattle.plan_judgement.specs.Judgement.{planSays, rowOf};
-ghost use Rattle.reedanchor.specs.ForC.{atReturn, FaultTold, PlanTold, PlaceTold, CheckTold, ListingTold};
-ghost use Rattle.reedanchor.specs.Till.{tillAnswer};
+ghost use Rattle.plan_judgement.specs.Judgement.{says, planSays, rowOf};
+ghost use Rattle.answers.specs.ForC.{atReturn, FaultTold, PlanTold, PlaceTold, CheckTold, ListingTold};
+ghost use Rattle.reedanchor.specs.Till.{answersBelow, numberSaid, tillAnswer};
 ghost use Rattle.sheet.specs.Faults.{faultOf};
+use answers::tell_check;
+use answers::tell_fault;
+use answers::tell_listing;
+use answers::tell_place;
+use answers::tell_plan;
 use fault::fault_of;
 use flowcheck::check_flow;
 use ids::PLACES;
 use ids::Place;
 use listed::write_listing;
 use place_judgement::judge_place;
+use plan_judgement::Answer;
 use plan_judgement::judge_plan;
+use summary::verdict_number;
 
-mod told;
-
-use told::answer_number;
-use told::tell_check;
-use told::tell_fault;
-use told::tell_listing;
-use told::tell_place;
-use told::tell_plan;
+// The number of a fault, else of the verdict.
+fn answer_number(a: Answer) -> u32
+    requires { ⌜ numberSaid (says a) < answersBelow ⌝ }
+    ensures { λ r. ⌜ r ≡ numberSaid (says a) ⌝ }
+{
+    match a {
+        Answer::Refused(f) => f.number,
+        Answer::Judged(totals) => {
+            let v = totals.verdict;
+            verdict_number(v)
+        }
+    }
+}
 
 // The till server's call. The row that it lends has a number for each place that a sheet may have, so fault 13 doesn't arise.
 #[no_mangle]

@@ -1,6 +1,6 @@
 -- `reedanchor::reedanchor_check_flow` rests on what `check_flow` says.
 use borrow.Author.Needs.{needs}
-use Rattle.reedanchor.proofs.Same.{check-told}
+use Rattle.answers.specs.Same.{check-told}
 use Rattle.reedanchor.proofs.reedanchor_check_flow.Statement.{statement}
 use Rattle.reedanchor.proofs.reedanchor_check_flow.Tie as tie
 

@@ -1,6 +1,6 @@
 -- `reedanchor::reedanchor_listing` rests on what `write_listing` says and leaves in the row.
 use borrow.Author.Needs.{needs}
-use Rattle.reedanchor.proofs.Same.{listing-told}
+use Rattle.answers.specs.Same.{listing-told}
 use Rattle.reedanchor.proofs.reedanchor_listing.Statement.{statement}
 use Rattle.reedanchor.proofs.reedanchor_listing.Tie as tie
 

@@ -1,6 +1,6 @@
 -- `reedanchor::reedanchor_place` rests on what `judge_place` says and leaves in the rows.
 use borrow.Author.Needs.{needs}
-use Rattle.reedanchor.proofs.Same.{place-told}
+use Rattle.answers.specs.Same.{place-told}
 use Rattle.reedanchor.proofs.reedanchor_place.Statement.{statement}
 use Rattle.reedanchor.proofs.reedanchor_place.Tie as tie
 

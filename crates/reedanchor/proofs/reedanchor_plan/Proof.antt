@@ -3,8 +3,8 @@ use mathlib.Core.Path.{ap}
 use native.Mathlib.Omega.{arith}
 use denote.Ref.{now}
 use borrow.Author.Needs.{needs}
-use Rattle.reedanchor.specs.ForC.{firstSaid}
-use Rattle.reedanchor.proofs.Same.{plan-told}
+use Rattle.answers.specs.ForC.{firstSaid}
+use Rattle.answers.specs.Same.{plan-told}
 use Rattle.reedanchor.proofs.PlanSaid.{first-small}
 use Rattle.reedanchor.proofs.reedanchor_plan.Statement.{statement}
 use Rattle.reedanchor.proofs.reedanchor_plan.Tie as tie

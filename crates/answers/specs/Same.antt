@@ -7,7 +7,7 @@ use Rattle.calls.specs.Said.{Said}
 use Rattle.sheet.specs.Told.{noFault}
 use Rattle.sheet.specs.declared.Fault.{Fault}
 use Rattle.summary.specs.Summary.{PlanValues}
-use Rattle.reedanchor.specs.ForC.{FaultTold, PlanTold, PlaceTold, CheckTold, ListingTold}
+use Rattle.answers.specs.ForC.{FaultTold, PlanTold, PlaceTold, CheckTold, ListingTold}
 
 -- a fault that is none
 pub none-told : (f : Fault) (r item : ℕ) → f ≡ noFault → FaultTold f r item → FaultTold noFault r item

@@ -1,13 +1,11 @@
 // An answer told in numbers: the fault's number is returned, and what C gets through pointers is written in every case.
-ghost use Prim.Native.Nat.{_<_, _≤_};
-ghost use mathlib.Core.Path.{_≡_};
+ghost use Prim.Native.Nat.{_≤_};
 ghost use Rattle.flowcheck.specs.Checked.{says as saysChecked};
 ghost use Rattle.ids.specs.Limits.{mostPlaces};
 ghost use Rattle.listed.specs.Listed.{says as saysListed};
 ghost use Rattle.place_judgement.specs.Judgement.{says as saysJudged};
 ghost use Rattle.plan_judgement.specs.Judgement.{says};
-ghost use Rattle.reedanchor.specs.ForC.{atReturn, firstSaid, FaultTold, PlanTold, PlaceTold, CheckTold, ListingTold};
-ghost use Rattle.reedanchor.specs.Till.{answersBelow, numberSaid};
+ghost use Rattle.answers.specs.ForC.{atReturn, firstSaid, FaultTold, PlanTold, PlaceTold, CheckTold, ListingTold};
 use flowcheck::Checked;
 use listed::Listed;
 use place_judgement::Judgement;
@@ -15,21 +13,6 @@ use plan_judgement::Answer;
 use sheet::Fault;
 use sheet::no_fault;
 use summary::first_place;
-use summary::verdict_number;
-
-// The number of a fault, else of the verdict.
-pub fn answer_number(a: Answer) -> u32
-    requires { ⌜ numberSaid (says a) < answersBelow ⌝ }
-    ensures { λ r. ⌜ r ≡ numberSaid (says a) ⌝ }
-{
-    match a {
-        Answer::Refused(f) => f.number,
-        Answer::Judged(totals) => {
-            let v = totals.verdict;
-            verdict_number(v)
-        }
-    }
-}
 
 // A fault, or that there is none.
 pub fn tell_fault(f: Fault, item: &mut u32) -> u32

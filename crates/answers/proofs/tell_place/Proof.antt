@@ -1,13 +1,13 @@
--- `told::tell_place` rests on what the match tells of the judgement: a fault, for which the count is 0, or the spare count.
+-- `answers::tell_place` rests on what the match tells of the judgement: a fault, for which the count is 0, or the spare count.
 use native.Mathlib.Omega.{arith}
 use mathlib.Core.Path.{sym, ap}
 use mir.Syntax.{w32}
 use mir.ValLaws.{toZ-ofZ}
 use borrow.Author.Needs.{needs}
 use Rattle.place_judgement.specs.Judgement.{says}
-use Rattle.reedanchor.proofs.Same.{none-told, place-told}
-use Rattle.reedanchor.proofs.told.tell_place.Statement.{statement}
-use Rattle.reedanchor.proofs.told.tell_place.Tie as tie
+use Rattle.answers.specs.Same.{none-told, place-told}
+use Rattle.answers.proofs.tell_place.Statement.{statement}
+use Rattle.answers.proofs.tell_place.Tie as tie
 
 returns-2 : tie.Need-returns-2
 returns-2 c =

@@ -1,12 +1,12 @@
--- `told::tell_check` rests on what the match tells of the answer: a fault or an invalid row, for which 0 stands there already, or a valid one.
+-- `answers::tell_check` rests on what the match tells of the answer: a fault or an invalid row, for which 0 stands there already, or a valid one.
 use native.Mathlib.Omega.{arith}
 use mathlib.Core.Path.{_≡_, sym, ap}
 use borrow.Author.Needs.{needs}
 use Rattle.flowcheck.specs.declared.Checked.the-variants.{Valid, Invalid}
 use Rattle.flowcheck.specs.Checked.{says}
-use Rattle.reedanchor.proofs.Same.{none-told, check-told}
-use Rattle.reedanchor.proofs.told.tell_check.Statement.{statement}
-use Rattle.reedanchor.proofs.told.tell_check.Tie as tie
+use Rattle.answers.specs.Same.{none-told, check-told}
+use Rattle.answers.proofs.tell_check.Statement.{statement}
+use Rattle.answers.proofs.tell_check.Tie as tie
 
 returns : tie.Need-returns
 returns c =

@@ -1,13 +1,13 @@
--- `told::tell_plan` rests on what the match tells of the answer: a fault, for which every value is 0, or totals.
+-- `answers::tell_plan` rests on what the match tells of the answer: a fault, for which every value is 0, or totals.
 use native.Mathlib.Omega.{arith}
 use mathlib.Core.Path.{sym, ap}
 use borrow.Author.Needs.{needs}
 use Rattle.plan_judgement.specs.declared.Answer.{Answer}
 use Rattle.plan_judgement.specs.Judgement.{says}
-use Rattle.reedanchor.specs.ForC.{firstSaid}
-use Rattle.reedanchor.proofs.Same.{none-told, plan-told}
-use Rattle.reedanchor.proofs.told.tell_plan.Statement.{statement}
-use Rattle.reedanchor.proofs.told.tell_plan.Tie as tie
+use Rattle.answers.specs.ForC.{firstSaid}
+use Rattle.answers.specs.Same.{none-told, plan-told}
+use Rattle.answers.proofs.tell_plan.Statement.{statement}
+use Rattle.answers.proofs.tell_plan.Tie as tie
 
 first-place-requires : tie.Need-first-place-requires
 first-place-requires c κs = let judged : tie.After-a2 = search in omega (arith, ap (λ (a : Answer). firstSaid (says a)) (judged .a2 .given .1))

@@ -1,11 +1,11 @@
--- `told::tell_listing` rests on what the match tells of the answer: a fault, for which the length is 0, or the length.
+-- `answers::tell_listing` rests on what the match tells of the answer: a fault, for which the length is 0, or the length.
 use native.Mathlib.Omega.{arith}
 use mathlib.Core.Path.{sym, ap}
 use borrow.Author.Needs.{needs}
 use Rattle.listed.specs.Listed.{says}
-use Rattle.reedanchor.proofs.Same.{listing-told}
-use Rattle.reedanchor.proofs.told.tell_listing.Statement.{statement}
-use Rattle.reedanchor.proofs.told.tell_listing.Tie as tie
+use Rattle.answers.specs.Same.{listing-told}
+use Rattle.answers.proofs.tell_listing.Statement.{statement}
+use Rattle.answers.proofs.tell_listing.Tie as tie
 
 returns : tie.Need-returns
 returns c =

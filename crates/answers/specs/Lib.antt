@@ -1,0 +1,2 @@
+pub mod ForC
+pub mod Same
