@@ -53,11 +53,11 @@ static int tell_place(const uint8_t *sheet, size_t length, size_t place)
     }
     uint32_t events = REEDANCHOR_COUNT(sheet, REEDANCHOR_EVENTS), pairs = REEDANCHOR_COUNT(sheet, REEDANCHOR_PAIRS);
     if (spare < 0) {
-        printf("place %lu is short: %ld missing\n", (unsigned long)place, -(long)spare);
+        printf("place %lu is short: spare count %ld, so %ld missing\n", (unsigned long)place, (long)spare, -(long)spare);
         print_done_set(events);
         return 0;
     }
-    printf("place %lu runs: %ld to spare\n", (unsigned long)place, (long)spare);
+    printf("place %lu runs: spare count %ld\n", (unsigned long)place, (long)spare);
     print_flow(sheet, length, events, pairs);
     return 1;
 }
