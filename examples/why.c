@@ -11,6 +11,15 @@
 static uint32_t flow[REEDANCHOR_FLOW_LENGTH];
 static uint8_t marks[REEDANCHOR_MARKS_LENGTH];
 
+/* Faults 5 to 10 have an item: the first place, transition, event or pair at fault. */
+static void print_refusal(uint32_t fault, uint32_t item)
+{
+    printf("refused with %u: %s", (unsigned)fault, fault_words(fault));
+    if (fault >= REEDANCHOR_OVER_OPENING && fault <= REEDANCHOR_REPEATED_PAIR)
+        printf(", item %u", (unsigned)item);
+    printf("\n");
+}
+
 static void print_done_set(uint32_t events)
 {
     int some = 0;
@@ -48,7 +57,7 @@ static int tell_place(const uint8_t *sheet, size_t length, size_t place)
     int32_t spare;
     uint32_t fault = reedanchor_place(sheet, length, place, flow, REEDANCHOR_FLOW_LENGTH, marks, REEDANCHOR_MARKS_LENGTH, &item, &spare);
     if (fault != 0) {
-        printf("refused with %u: %s, item %u\n", (unsigned)fault, fault_words(fault), (unsigned)item);
+        print_refusal(fault, item);
         return 0;
     }
     uint32_t events = REEDANCHOR_COUNT(sheet, REEDANCHOR_EVENTS), pairs = REEDANCHOR_COUNT(sheet, REEDANCHOR_PAIRS);
@@ -69,7 +78,7 @@ static int tell_all(const uint8_t *sheet, size_t length)
     uint32_t item, total, short_places, first;
     uint32_t fault = reedanchor_plan(sheet, length, row, REEDANCHOR_ROW_LENGTH, &item, &total, &short_places, &first);
     if (fault != 0) {
-        printf("refused with %u: %s, item %u\n", (unsigned)fault, fault_words(fault), (unsigned)item);
+        print_refusal(fault, item);
         return 0;
     }
     uint32_t places = REEDANCHOR_COUNT(sheet, REEDANCHOR_PLACES);
