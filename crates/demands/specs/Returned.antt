@@ -53,19 +53,6 @@ pub data Returned (s : List ℕ) : ℕ → ℕ → Type 0 where
   by-verdict : (p : Place) (m : ℕ) (row : List ℕ) (totals : Totals) → saysPlan (Judged totals) ≡ planSays s row → totals .verdict ≡ Short p m
       → Returned s (p .0) m
 
--- C gets the same counts: where the place judgement returns 0, the spare count behind the pointer is one that is given,
-pub spare-in-c : (s : List ℕ) (p : ℕ) (flow marks : List ℕ) (item : ℕ) (z : ℤ) → PlaceTold (judgementSays s p flow marks) 0 item z → SpareReturned s p z
-unfolding judgementSays
-spare-in-c s p flow marks item z told =
-    let clear = said-clear (judgeFault s p flow marks) (spareAt s p) (sym (told .faulty .0)) in
-    let due = said-answer (judgeFault s p flow marks) (spareAt s p) clear in
-    let is : z ≡ spareAt s p = told .count ∙ ap (λ (said : Said ℤ). valueOr (pos 0) (λ (y : ℤ). y) (said .values)) due in
-    record { flow = flow; marks = marks; answer = Spare z; told = ap (λ (y : ℤ). answer y) is ∙ sym due; values = refl }
-
--- and where the plan judgement does, each place's number in the row is.
-pub count-in-c : (s row : List ℕ) (item total short first : ℕ) → PlanTold (planSays s row) 0 item total short first → (p : ℕ) → p < placesOf s → Returned s p (getD (rowOf s row) p 0)
-count-in-c s row item total short first told p place = by-row p row (taken s row item total short first told) place
-
 -- the totals that the plan judgement answers with have the values that are due
 pub totals-are : (s row : List ℕ) (totals : Totals) → saysPlan (Judged totals) ≡ planSays s row → VerdictOf (missingAt s) (placesOf s) (totals .verdict)
 unfolding planSays planValues valuesOf
@@ -109,3 +96,16 @@ module _ (s : List ℕ) where
   count-is p m (by-place q z given) = ap (λ (y : ℤ). above0 (negℤ y)) (spare-is q z given) ∙ sym (missing-spare (netOf s) (planOf s) q)
   count-is p m (by-row q row clear place) = row-is p row clear place
   count-is p m (by-verdict q k row totals told short) = sym (verdict-is q k row totals told short)
+
+-- C gets the same counts: where the place judgement returns 0, the spare count behind the pointer is one that is given,
+pub spare-in-c : (s : List ℕ) (p : ℕ) (flow marks : List ℕ) (item : ℕ) (z : ℤ) → PlaceTold (judgementSays s p flow marks) 0 item z → SpareReturned s p z
+unfolding judgementSays
+spare-in-c s p flow marks item z told =
+    let clear = said-clear (judgeFault s p flow marks) (spareAt s p) (sym (told .faulty .0)) in
+    let due = said-answer (judgeFault s p flow marks) (spareAt s p) clear in
+    let is : z ≡ spareAt s p = told .count ∙ ap (λ (said : Said ℤ). valueOr (pos 0) (λ (y : ℤ). y) (said .values)) due in
+    record { flow = flow; marks = marks; answer = Spare z; told = ap (λ (y : ℤ). answer y) is ∙ sym due; values = refl }
+
+-- and where the plan judgement does, each place's number in the row is.
+pub count-in-c : (s row : List ℕ) (item total short first : ℕ) → PlanTold (planSays s row) 0 item total short first → (p : ℕ) → p < placesOf s → Returned s p (getD (rowOf s row) p 0)
+count-in-c s row item total short first told p place = by-row p row (taken s row item total short first told) place
