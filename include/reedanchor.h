@@ -14,7 +14,7 @@
  * Numbers     A number behind a pointer of its own is a result. It is written at every return, whatever stood there, and is 0 where the
  *             call is refused. `*item` is the item at fault for 5 to 10 and 0 for every other fault and for none.
  * Null        A null pointer may be given for a sheet or a row of length 0, and for nothing else: not for a single number, nor for a
- *             row with a length, which the call may read.
+ *             sheet or a row with a length.
  * Overlaps    What a call writes may not overlap with anything else that it is given: rows and numbers are all apart.
  * Threads     There is no state, nothing is kept after the call, and no memory is allocated. Calls may run at once in several threads if
  *             what one of them writes isn't given to another meanwhile. Every call ends.
