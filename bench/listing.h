@@ -1,17 +1,14 @@
-// Times of a listing and of a plan judgement on one sheet, each by a program of its own.
+// Times of a listing and of a plan judgement on one sheet.
 #ifndef LISTING_H
 #define LISTING_H
 
 #include "sheets.h"
 
 struct listing_times {
-    double listing, judgement; // processor time, less what the program takes on an empty input
+    double listing, judgement;
 };
 
-// Whether bench/run has built both programs.
-int listing_present(void);
-
-// Each time is the median of some; the programs take turns. Where one of them can't be run or timed, this ends the benchmark.
+// Both by the archive's calls, which have to be there. Each time is the best of a few; the two take turns.
 struct listing_times time_listing(const struct sheet *sheet);
 
 #endif

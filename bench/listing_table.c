@@ -45,7 +45,7 @@ static double list_kind(const struct kind *kind, unsigned sheets)
 
 void print_listing(unsigned sheets, int missed[GROUPS])
 {
-    if (!listing_present())
+    if (!archive_present())
         return;
     printf("\nListing: its time over the plan judgement's, with opening counts that are just enough or one too few, and with the greatest\n");
     printf("%-24s   %-17s %d\n", "kind", "just enough", MAX_OPENING);
@@ -58,8 +58,8 @@ int print_listing_bar(const int missed[GROUPS])
 {
     printf("Listing: at most %d times the plan judgement on sheets at the limits, with opening counts that just suffice or are one too few.\n",
            BAR);
-    if (!listing_present()) {
-        printf("not tried: it needs the listing program and the archive\n");
+    if (!archive_present()) {
+        printf("not tried: it needs the archive\n");
         return 0;
     }
     for (int group = AT_THE_LIMITS; group <= MADE_TO_BE_SLOW; group++)

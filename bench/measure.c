@@ -49,8 +49,7 @@ unsigned libraries_present(void)
     return present;
 }
 
-// Processor time: on a busy machine the clock on the wall counts other programs too, and more so for a judge that takes longer.
-static double now(void)
+double processor_time(void)
 {
     struct timespec t;
 
@@ -58,9 +57,9 @@ static double now(void)
     return (double)t.tv_sec + 1e-9 * (double)t.tv_nsec;
 }
 
-static void keep_best(double *best, double began, int turn)
+void keep_best(double *best, double began, int turn)
 {
-    double time = now() - began;
+    double time = processor_time() - began;
 
     if (turn == 0 || time < *best)
         *best = time;
@@ -110,16 +109,16 @@ struct times measure(struct sheet *sheet, unsigned number)
     uint32_t answer = write_openings(sheet, least, plan.places, number);
 
     for (int turn = 0; turn < TURNS; turn++) {
-        double began = now();
+        double began = processor_time();
         times.agree &= judge(sheet->bytes, sheet->length) == answer;
         keep_best(&times.archive, began, turn);
-        began = now();
+        began = processor_time();
         times.agree &= independent_till(sheet->bytes, sheet->length) == answer;
         keep_best(&times.independent, began, turn);
         for (int i = 0; i < LIBRARIES; i++) {
             if (libraries[i].least == NULL)
                 continue;
-            began = now();
+            began = processor_time();
             libraries[i].least(&plan, other);
             keep_best(&times.library[i], began, turn);
             times.agree &= memcmp(least, other, plan.places * sizeof *least) == 0;

@@ -31,6 +31,12 @@ struct times measure(struct sheet *sheet, unsigned number);
 // The archive's time over the fastest library's, or over the independent judge's where no library is installed.
 double ratio(const struct times *times);
 
+// Processor time: on a busy machine the clock on the wall counts other programs too, and more so for a judge that takes longer.
+double processor_time(void);
+
+// Keeps the time since this one if it is the best so far, or the first.
+void keep_best(double *best, double began, int turn);
+
 // Of a row that gets sorted.
 double median(double *row, unsigned count);
 
