@@ -49,6 +49,11 @@ pub record CheckTold (said : Said Bool) (r item valid : ℕ) : Type 0 where
   pub faulty : FaultTold (said .fault) r item
   pub yes : valid ≡ valueOr 0 (λ b. cond b 1 0) (said .values)
 
+-- The mending call: the length of the clean sheet.
+pub record MendTold (said : Said ℕ) (r item written : ℕ) : Type 0 where
+  pub faulty : FaultTold (said .fault) r item
+  pub length : written ≡ valueOr 0 (λ n. n) (said .values)
+
 -- The listing: the length of the text. Its one fault, 13, has no item.
 pub record ListingTold (said : Said ℕ) (r written : ℕ) : Type 0 where
   pub faulty : r ≡ said .fault .number

@@ -7,7 +7,7 @@ use Rattle.calls.specs.Said.{Said}
 use Rattle.sheet.specs.Told.{noFault}
 use Rattle.sheet.specs.declared.Fault.{Fault}
 use Rattle.summary.specs.Summary.{PlanValues}
-use Rattle.answers.specs.ForC.{FaultTold, PlanTold, PlaceTold, CheckTold, ListingTold}
+use Rattle.answers.specs.ForC.{FaultTold, PlanTold, PlaceTold, CheckTold, MendTold, ListingTold}
 
 -- a fault that is none
 pub none-told : (f : Fault) (r item : ℕ) → f ≡ noFault → FaultTold f r item → FaultTold noFault r item
@@ -24,6 +24,10 @@ module _ {said due : Said ℤ} {r item : ℕ} {spare : ℤ} where
 module _ {said due : Said Bool} {r item valid : ℕ} where
   pub check-told : said ≡ due → CheckTold said r item valid → CheckTold due r item valid
   check-told e h = subst (λ (x : Said Bool). CheckTold x r item valid) e h
+
+module _ {said due : Said ℕ} {r item written : ℕ} where
+  pub mend-told : said ≡ due → MendTold said r item written → MendTold due r item written
+  mend-told e h = subst (λ (x : Said ℕ). MendTold x r item written) e h
 
 module _ {said due : Said ℕ} {r written : ℕ} where
   pub listing-told : said ≡ due → ListingTold said r written → ListingTold due r written

@@ -1,13 +1,13 @@
 // An answer told in numbers: the fault's number is returned, and what C gets through pointers is written in every case.
 ghost use Prim.Native.Nat.{_≤_};
+ghost use Rattle.calls.specs.Length.{says as saysWritten};
 ghost use Rattle.flowcheck.specs.Checked.{says as saysChecked};
 ghost use Rattle.ids.specs.Limits.{mostPlaces};
-ghost use Rattle.listed.specs.Listed.{says as saysListed};
 ghost use Rattle.place_judgement.specs.Judgement.{says as saysJudged};
 ghost use Rattle.plan_judgement.specs.Judgement.{says};
-ghost use Rattle.answers.specs.ForC.{atReturn, firstSaid, FaultTold, PlanTold, PlaceTold, CheckTold, ListingTold};
+ghost use Rattle.answers.specs.ForC.{atReturn, firstSaid, FaultTold, PlanTold, PlaceTold, CheckTold, ListingTold, MendTold};
+use calls::Written;
 use flowcheck::Checked;
-use listed::Listed;
 use place_judgement::Judgement;
 use plan_judgement::Answer;
 use sheet::Fault;
@@ -83,17 +83,33 @@ pub fn tell_check(c: Checked, item: &mut u32, valid: &mut u32) -> u32
 }
 
 // What the listing's call says.
-pub fn tell_listing(l: Listed, written: &mut usize) -> u32
-    ensures { λ r. ⌜ ListingTold (saysListed l) r (atReturn written) ⌝ }
+pub fn tell_listing(a: Written, written: &mut usize) -> u32
+    ensures { λ r. ⌜ ListingTold (saysWritten a) r (atReturn written) ⌝ }
 {
-    match l {
-        Listed::Refused(f) => {
+    match a {
+        Written::Refused(f) => {
             *written = 0;
             f.number
         }
-        Listed::Length(n) => {
+        Written::Length(n) => {
             *written = n;
             0
+        }
+    }
+}
+
+// What the mending call says.
+pub fn tell_mend(a: Written, item: &mut u32, size: &mut usize) -> u32
+    ensures { λ r. ⌜ MendTold (saysWritten a) r (atReturn item) (atReturn size) ⌝ }
+{
+    match a {
+        Written::Refused(f) => {
+            *size = 0;
+            tell_fault(f, item)
+        }
+        Written::Length(n) => {
+            *size = n;
+            tell_fault(no_fault(), item)
         }
     }
 }

@@ -3,3 +3,4 @@ pub mod FlowRow
 pub mod Overwritten
 pub mod Refusal
 pub mod Said
+pub mod Length

@@ -1,10 +1,18 @@
-// The chain of faults of a call, one link after another: the sheet's own, then a place's, then each lent row's. A lower fault is handed on.
+// The chain of faults of a call, one link after another: the sheet's own, then a place's, then each lent row's. A lower fault is handed on. And the answer of
+// the calls that write into a row.
 ghost use lib.Dec.{leb, ltb};
 ghost use Rattle.calls.specs.Refusal.{Next};
 use fault::Examined;
 use ids::Place;
+use sheet::Fault;
 use sheet::no_fault;
 use sheet::plain_fault;
+
+// The answer of a call that writes a sheet or a text into a lent row: how long it is.
+pub enum Written {
+    Refused(Fault),
+    Length(usize),
+}
 
 // The fault k after those that an examination found, if a test finds it. It has no item.
 fn next(e: Examined, found: bool, k: u32) -> Examined

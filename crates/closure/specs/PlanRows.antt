@@ -10,7 +10,7 @@ use mathlib.Core.Path.{_≡_, sym, ap, ap₂, subst, _∙_}
 use lib.Dec.{T, eqb, ltb, ltb→lt, nltb→le, not-T, T-not}
 use lib.ListN.{replicate}
 use Rattle.ids.specs.Limits.{mostEvents}
-use Rattle.finite.specs.Bounded.{any, any-yes, yes-any, decide}
+use Rattle.finite.specs.Bounded.{any, any-ext, any-yes, yes-any, decide}
 use Rattle.plan.specs.Net.{Plan}
 use Rattle.plan.specs.Order.{Before, before, skeleton}
 use Rattle.plan.specs.Closure.{says-before}
@@ -133,6 +133,12 @@ module _ (P : Plan) (named : Named P) where
         (reach-after P named (marked old) (λ x y hx hy. g .marks x y (lt-of-lt-of-le hy few)))
 
   module _ (succ : List ℕ) (after : Successors P succ) where
+    -- Some event is marked in its own row exactly if some event is before itself.
+    pub cycle-rows : cyclic succ (P .events) ≡ any (P .events) (λ v. before P v v)
+    unfolding cyclic
+    cycle-rows =
+        any-ext (P .events) (λ v. marked succ v v) (λ v. before P v v) (λ v h. says-before P (marked succ v v) v v (after .marks v v h h))
+
     -- No event is marked in its own row exactly if no event is before itself.
     pub acyclic-rows : T (not (cyclic succ (P .events))) ↔ ((v : ℕ) → ¬ Before P v v)
     unfolding cyclic

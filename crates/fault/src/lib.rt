@@ -7,9 +7,7 @@ ghost use Rattle.layout.specs.Layout.{LayoutOf, LaidBy, WithinLimits};
 ghost use Rattle.order.specs.Rows.{Blank, OrderRows};
 use ids::ROWS;
 use items::no_event;
-use items::no_transition;
-use items::over_opening;
-use items::over_weight;
+use items::number_fault;
 use items::self_pair;
 use layout::Layout;
 use layout::layout_fault;
@@ -31,17 +29,9 @@ fn content_fault(s: &[u8], l: Layout, succ: &mut [u32; ROWS], pred: &mut [u32; R
     ensures { λ r. ⌜ r ≡ firstFault contentFaults (now (s .entry)) ⌝ }
     ensures { λ r. ⌜ (r .number ≡ 0 → OrderRows (planOf (now (s .entry))) (is succ) (is pred)) ⌝ }
 {
-    let opening = over_opening(s, l);
-    if opening.number != 0 {
-        return opening;
-    }
-    let weight = over_weight(s, l);
-    if weight.number != 0 {
-        return weight;
-    }
-    let label = no_transition(s, l);
-    if label.number != 0 {
-        return label;
+    let number = number_fault(s, l);
+    if number.number != 0 {
+        return number;
     }
     let end = no_event(s, l);
     if end.number != 0 {

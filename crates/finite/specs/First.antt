@@ -81,6 +81,10 @@ module _ (f : ℕ → Bool) where
   first-done n m i e l none-before =
       no-first m (first m f) (first-finds m) (λ j k. search-none i f none-before j (omega arith))
 
+-- where no number passes, there is no first
+pub first-nothing : (n : ℕ) (f : ℕ → Bool) → ((i : ℕ) → i < n → f i ≡ false) → first n f ≡ none
+first-nothing n f h = no-first f n (first n f) (first-finds f n) h
+
 -- tests that agree below n find the same
 pub first-ext : (n : ℕ) (f g : ℕ → Bool) → ((i : ℕ) → i < n → f i ≡ g i) → first n f ≡ first n g
 unfolding first

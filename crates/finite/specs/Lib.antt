@@ -1,9 +1,12 @@
 pub mod Bounded
+pub mod Chosen
 pub mod Count
+pub mod Each
 pub mod Filled
 pub mod First
 pub mod Pairs
 pub mod Row
 pub mod Search
+pub mod Stands
 pub mod Subset
 pub mod Sum

@@ -1,5 +1,6 @@
 -- A search below a bound: what a loop knows that tests each number in turn and stops at the first that passes, or that fails.
-use Prim.Native.Nat.{ℕ, _+_, _<_, _≤_}
+use Prim.Native.Nat.{ℕ, zero, suc, _+_, _<_, _≤_}
+use native.Mathlib.Nat.{le-step, lt-suc-self}
 use native.Mathlib.Omega.{arith}
 use native.Mathlib.Numerals.{add-one}
 use mathlib.Core.Bool.{Bool, true, false}
@@ -33,6 +34,12 @@ search-done n m f i e l k none = let same : m ≡ i = omega arith in sym (rw sam
 pub search-none : (n : ℕ) (f : ℕ → Bool) → any n f ≡ false → (i : ℕ) → i < n → f i ≡ false
 search-none n f none i l =
     is-false (f i) (not-T (f i) (λ t. fails (any n f) none (yes-any n f i l t)))
+
+-- where no number passes, nothing is found
+pub nothing-found : (n : ℕ) (f : ℕ → Bool) → ((i : ℕ) → i < n → f i ≡ false) → any n f ≡ false
+unfolding any
+nothing-found zero f h = refl
+nothing-found (suc n) f h = simp (nothing-found n f (λ i l. h i (le-step l)), h n (lt-suc-self n))
 
 -- The same where each number has to pass.
 pub all-start : (f : ℕ → Bool) → all 0 f ≡ true

@@ -1,7 +1,7 @@
 // Faults 5 to 9, item after item up to the first at fault, on a sheet whose layout has no fault.
 ghost use Prim.Native.Nat.{_<_};
 ghost use mathlib.Core.Path.{_≡_};
-ghost use Rattle.sheet.specs.Faults.{overOpening, overWeightIn, overWeight, noTransition, noEvent, selfPair};
+ghost use Rattle.sheet.specs.Faults.{overOpening, overWeightIn, overWeight, noTransition, noEvent, selfPair, numberFaults, firstFault};
 ghost use Rattle.sheet.specs.Told.{tell};
 ghost use Rattle.layout.specs.Layout.{LaidBy};
 use ids::Event;
@@ -24,7 +24,7 @@ const OPENING: u32 = 1000000;
 const WEIGHT: u32 = 1000;
 
 // 5: opening count above 1,000,000; the item is the place.
-pub fn over_opening(s: &[u8], l: Layout) -> Fault
+fn over_opening(s: &[u8], l: Layout) -> Fault
     requires { ⌜ LaidBy (now s) l ⌝ }
     ensures { λ r. ⌜ r ≡ tell 5 (overOpening (now (s .entry))) ⌝ }
 {
@@ -54,7 +54,7 @@ fn over_weight_in(s: &[u8], l: Layout, t: Transition) -> bool
 }
 
 // 6: weight above 1,000; the item is the transition.
-pub fn over_weight(s: &[u8], l: Layout) -> Fault
+fn over_weight(s: &[u8], l: Layout) -> Fault
     requires { ⌜ LaidBy (now s) l ⌝ }
     ensures { λ r. ⌜ r ≡ tell 6 (overWeight (now (s .entry))) ⌝ }
 {
@@ -67,7 +67,7 @@ pub fn over_weight(s: &[u8], l: Layout) -> Fault
 }
 
 // 7: event names no transition; the item is the event.
-pub fn no_transition(s: &[u8], l: Layout) -> Fault
+fn no_transition(s: &[u8], l: Layout) -> Fault
     requires { ⌜ LaidBy (now s) l ⌝ }
     ensures { λ r. ⌜ r ≡ tell 7 (noTransition (now (s .entry))) ⌝ }
 {
@@ -78,6 +78,22 @@ pub fn no_transition(s: &[u8], l: Layout) -> Fault
         }
     }
     no_fault()
+}
+
+// The first of faults 5, 6 and 7: those of the numbers that stand before the pairs.
+pub fn number_fault(s: &[u8], l: Layout) -> Fault
+    requires { ⌜ LaidBy (now s) l ⌝ }
+    ensures { λ r. ⌜ r ≡ firstFault numberFaults (now (s .entry)) ⌝ }
+{
+    let opening = over_opening(s, l);
+    if opening.number != 0 {
+        return opening;
+    }
+    let weight = over_weight(s, l);
+    if weight.number != 0 {
+        return weight;
+    }
+    no_transition(s, l)
 }
 
 // 8: pair names no event; the item is the pair.

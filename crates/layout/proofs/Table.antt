@@ -1,7 +1,6 @@
 -- The tests of the table of contents: a wrong count passes the test, where each body is due, and which fault is told.
 use Prim.Native.Nat.{ℕ, _+_, _*_, _<_, _≤_}
 use native.Mathlib.Omega.{arith}
-use native.Mathlib.Nat.{mul-le-mul}
 use mathlib.Core.Bool.{Bool, true, false, not}
 use mathlib.Core.List.{List}
 use mathlib.Core.Path.{_≡_, refl, sym, ap, _∙_}
@@ -16,7 +15,7 @@ use Rattle.sheet.specs.Table.{tableLength, start, count, limit, itemLength, ite
 use Rattle.sheet.specs.Faults.{tooShort, overLimitAt, overLimit, late, early, wrongEnd, layoutFaults, firstFault}
 use Rattle.sheet.specs.Told.{faultAt, noFault, tell, plain, orElse, else-first, else-next}
 use Rattle.sheet.specs.declared.Fault.{Fault}
-use Rattle.layout.specs.Layout.{placesAt, transitionsAt, eventsAt, pairsAt, LayoutOf, WithinLimits}
+use Rattle.layout.specs.Layout.{placesAt, transitionsAt, eventsAt, pairsAt, LayoutOf}
 use Rattle.layout.specs.Starts.{startsFault}
 use Rattle.layout.specs.declared.Layout.{Layout}
 
@@ -32,10 +31,6 @@ count-is s e at is = rw is
 pub short-is : (s : List ℕ) → ltb (length s) tableLength ≡ tooShort s
 unfolding tooShort
 short-is s = refl
-
--- how far all items of the transitions reach
-pub weights-fit : (l : Layout) → WithinLimits l → 4 * l .places * l .transitions ≤ 4 * mostPlaces * mostTransitions
-weights-fit l within = mul-le-mul {n₁ = 4 * l .places} {n₂ = 4 * mostPlaces} (omega arith) (within .transitions)
 
 module _ (s : List ℕ) (l : Layout) (is : LayoutOf s l) where
   -- 2

@@ -4,6 +4,7 @@ use Prim.Native.Nat.{ℕ}
 use mathlib.Core.List.{List, [], _∷_, _++_}
 use mathlib.Core.Path.{_≡_, refl}
 use Rattle.numbers.specs.Number.{number}
+use Rattle.finite.specs.Each.{each}
 use Rattle.finite.specs.Bounded.{all, any}
 use Rattle.finite.specs.Count.{count as members}
 use Rattle.finite.specs.First.{first}
@@ -16,11 +17,11 @@ use Rattle.sheet.specs.Table.{start, count, limit, itemLength, item, bodyEnd, d
 use Rattle.sheet.specs.Items.{openingAt, takesAt, givesAt, labelAt, earlierAt, laterAt}
 use Rattle.sheet.specs.Faults.{tooShort, overLimitAt, overLimit, misplacedAt, misplaced, late, early, wrongEnd, overOpeningAt, overOpening, overWeightAt, overWeightIn, overWeight}
 use Rattle.sheet.specs.Faults.{noTransitionAt, noTransition, noEventAt, noEvent, selfPairAt, selfPair, samePair, repeatAt, repeated, cycleAt, cyclic}
-use Rattle.sheet.specs.Faults.{layoutFaults, itemFaults, orderFaults, contentFaults, faults, firstFault, faultOf}
+use Rattle.sheet.specs.Faults.{layoutFaults, numberFaults, pairFaults, orderFaults, contentFaults, faults, firstFault, faultOf}
 use Rattle.sheet.specs.Told.{orElse}
 use Rattle.summary.specs.Summary.{totalMissing, shortPlaces}
 use Rattle.text.specs.Words.{word, digits, decimal, signed}
-use Rattle.lines.specs.Listing.{planLine, placeLine, totalsLine, each, doneEvents, firstLine, runsLine, shortLine, lineOf, countLines, linesOf, refusedLine, textOf, listingOf}
+use Rattle.lines.specs.Listing.{planLine, placeLine, totalsLine, doneEvents, firstLine, runsLine, shortLine, lineOf, countLines, linesOf, refusedLine, textOf, listingOf}
 
 -- Starts 32, 44, 68, 74; 3 places with the given opening counts; hold takes 1 0 0 gives 0 1 0; sell takes 0 1 0 gives 0 0 1;
 -- events 0, 0, 1; so many pairs, in bytes.
@@ -47,5 +48,5 @@ unfolding sheet word digits decimal signed planLine placeLine totalsLine each do
     number any all before beforeBy independent freeCount countPairs members prefix front tokens lack missing need leastOpening spare smallest endCount greatest every sum over
     start count limit itemLength item bodyEnd due openingAt takesAt givesAt labelAt earlierAt laterAt tooShort overLimitAt overLimit misplacedAt misplaced late early wrongEnd
     overOpeningAt overOpening overWeightAt overWeightIn overWeight noTransitionAt noTransition noEventAt noEvent selfPairAt selfPair samePair repeatAt repeated cycleAt cyclic
-    layoutFaults itemFaults orderFaults contentFaults faults firstFault faultOf first orElse totalMissing shortPlaces
+    layoutFaults numberFaults pairFaults orderFaults contentFaults faults firstFault faultOf first orElse totalMissing shortPlaces
 examples = (refl, refl, refl, refl, refl)

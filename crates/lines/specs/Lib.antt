@@ -1,6 +1,6 @@
 pub mod Room
 pub mod Listing
-pub mod Each
+pub mod DoneEvents
 pub mod LeastRow
 pub mod Examples
 pub mod Enough

@@ -6,6 +6,7 @@ use mathlib.Core.List.{List, [], _++_}
 use mathlib.Core.Option.{Option, none, some}
 use lib.IntN.{ℤ}
 use Rattle.finite.specs.Bounded.{any}
+use Rattle.finite.specs.Each.{each}
 use Rattle.finite.specs.Subset.{Set}
 use Rattle.plan.specs.Net.{Net, Plan}
 use Rattle.plan.specs.Order.{freeCount}
@@ -33,11 +34,6 @@ placeLine p opening end spare =
 -- Then short places and total missing.
 unfoldable pub totalsLine : ℕ → ℕ → List ℕ
 totalsLine short total = field "short " short ++ field " total " total ++ word "\n"
-
--- the texts f 0, .., f (n - 1)
-unfoldable pub each : ℕ → (ℕ → List ℕ) → List ℕ
-each zero f = []
-each (suc n) f = each n f ++ f n
 
 -- an event of a set, after a space
 abbrev pub eventIn : Set → ℕ → List ℕ

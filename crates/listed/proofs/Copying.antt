@@ -5,14 +5,15 @@ use mathlib.Core.List.{List, _++_}
 use mathlib.Core.Path.{_≡_, refl, sym, ap, _∙_}
 use lib.ListN.{length, take, drop}
 use Rattle.calls.specs.Call.{short-row, long-row}
+use Rattle.calls.specs.declared.Written.the-variants.{Refused, Length}
+use Rattle.calls.specs.Length.{says}
 use Rattle.calls.specs.Overwritten.{at-fault, at-none}
 use Rattle.calls.specs.Said.{answer, said-answer, told-refusal}
 use Rattle.sheet.specs.Told.{noFault}
 use Rattle.sheet.specs.declared.Fault.{Fault}
 use Rattle.text.specs.Put.{Put, put-front}
 use Rattle.lines.specs.Listing.{listingOf}
-use Rattle.listed.specs.declared.Listed.the-variants.{Refused, Length}
-use Rattle.listed.specs.Listed.{says, listFault, listSays, rowAfter}
+use Rattle.listed.specs.Listed.{listFault, listSays, rowAfter}
 
 module _ (s row old text : List ℕ) (n : ℕ) (put : Put old text 0 (listingOf s) n) where
   -- the row is too short

@@ -5,6 +5,7 @@ use mathlib.Core.List.{List, _++_}
 use mathlib.Core.Option.{Option, none, some}
 use mathlib.Core.Path.{_≡_, refl, sym, ap, _∙_}
 use lib.ListN.{getD}
+use Rattle.finite.specs.Each.{each}
 use Rattle.finite.specs.Filled.{Filled}
 use Rattle.plan.specs.Order.{freeCount}
 use Rattle.sheet.specs.Table.{placesOf, eventsOf}
@@ -26,7 +27,7 @@ use Rattle.plan_judgement.specs.First.{FirstTo}
 use Rattle.plan_judgement.specs.CountsInRow.{small-counts, row-values}
 use Rattle.closure.specs.PlanRows.{Predecessors}
 use Rattle.free_pairs.specs.FreeRows.{OrderIn}
-use Rattle.lines.specs.Listing.{planLine, totalsLine, each, lastLine, shortLine, lineOf, countLines, linesOf, refusedLine, textOf, listingOf}
+use Rattle.lines.specs.Listing.{planLine, totalsLine, lastLine, shortLine, lineOf, countLines, linesOf, refusedLine, textOf, listingOf}
 use Rattle.lines.specs.LeastRow.{LeastRow}
 
 -- the listing by the fault

@@ -3,6 +3,7 @@
 ghost use Prim.Native.Nat.{_≤_};
 ghost use mathlib.Core.Path.{_≡_};
 ghost use lib.ListN.{length};
+ghost use Rattle.calls.specs.Length.{says};
 ghost use Rattle.closure.specs.PlanRows.{Predecessors};
 ghost use Rattle.ids.specs.Lent.{was, is};
 ghost use Rattle.layout.specs.Layout.{LayoutOf};
@@ -15,7 +16,8 @@ ghost use Rattle.sheet.specs.Items.{netOf, planOf};
 ghost use Rattle.sheet.specs.Table.{placesOf};
 ghost use Rattle.summary.specs.Summary.{totalMissing, shortPlaces};
 ghost use Rattle.text.specs.Put.{Put};
-ghost use Rattle.listed.specs.Listed.{says, listSays, rowAfter};
+ghost use Rattle.listed.specs.Listed.{listSays, rowAfter};
+use calls::Written;
 use fault::examine;
 use free_pairs::free_count;
 use ids::PLACES;
@@ -29,15 +31,9 @@ use lines::put_totals;
 use place_lines::put_places;
 use plan_judgement::above_openings;
 use plan_judgement::count_all;
-use sheet::Fault;
 use sheet::plain_fault;
 use summary::sum_up;
 use text::put_word;
-
-pub enum Listed {
-    Refused(Fault),
-    Length(usize),
-}
 
 // The lines that tell counts, with the order and the least opening counts in rows and what the missing ones come to.
 fn put_counts(
@@ -99,7 +95,7 @@ fn put_listing(s: &[u8], row: &mut [u8]) -> usize
 }
 
 // Writes the listing of any bytes into a lent row and tells its length. A row that is too short is left as it is.
-pub fn write_listing(s: &[u8], row: &mut [u8]) -> Listed
+pub fn write_listing(s: &[u8], row: &mut [u8]) -> Written
     ensures { λ r. ⌜ says r ≡ listSays (was s) (was row) ⌝ }
     ensures { λ _. ⌜ is row ≡ rowAfter (was s) (was row) ⌝ }
 {
@@ -107,8 +103,8 @@ pub fn write_listing(s: &[u8], row: &mut [u8]) -> Listed
     let n = put_listing(s, &mut text);
     if row.len() < n {
         let f = plain_fault(13);
-        return Listed::Refused(f);
+        return Written::Refused(f);
     }
     put_word(row, 0, &text[..n]);
-    Listed::Length(n)
+    Written::Length(n)
 }

@@ -3,39 +3,12 @@
 //
 // A program has no exit status: where the input can't be read nothing is printed, and standard error says why; so it does where the
 // listing can't be written.
+use calls::Written;
 use layout::LONGEST;
 use lines::LISTING_ROOM;
-use listed::Listed;
 use listed::write_listing;
-
-enum Input {
-    Bytes(usize),
-    Failed,
-}
-
-// Reads until the row is full or the input ends. A read that a signal interrupts is tried again; turns are counted, so that the loop is
-// proved to end.
-fn read_sheet(row: &mut [u8]) -> Input {
-    let mut done = 0;
-    let mut turns: u32 = 100000;
-    while turns > 0 {
-        if done == row.len() {
-            return Input::Bytes(done);
-        }
-        let got = libc::read(0, &mut row[done..]);
-        if got == 0 {
-            return Input::Bytes(done);
-        }
-        if got < 0 {
-            if os::errno() != libc::EINTR {
-                return Input::Failed;
-            }
-        }
-        done += io::count(got, &row[done..]);
-        turns -= 1;
-    }
-    Input::Failed
-}
+use standard_input::Input;
+use standard_input::read_sheet;
 
 fn print(text: &[u8], n: usize) {
     if n <= text.len() {
@@ -50,8 +23,8 @@ fn list(sheet: &[u8], n: usize) {
     if n <= sheet.len() {
         let listed = write_listing(&sheet[0..n], &mut text);
         match listed {
-            Listed::Refused(_f) => {}
-            Listed::Length(length) => print(&text, length),
+            Written::Refused(_f) => {}
+            Written::Length(length) => print(&text, length),
         }
     }
 }

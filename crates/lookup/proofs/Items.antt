@@ -1,20 +1,15 @@
 -- The number that stands where the layout says is the item, and an item of the transitions lies within the sheet.
 use Prim.Native.Nat.{ℕ, _+_, _*_, _<_, _≤_}
-use native.Mathlib.Nat.{mul-le-mul, le-of-lt}
 use native.Mathlib.Omega.{arith}
 use mathlib.Core.List.{List}
 use mathlib.Core.Path.{_≡_, ap}
 use lib.ListN.{length}
-use Rattle.ids.specs.Limits.{mostPlaces, mostTransitions}
 use Rattle.numbers.specs.Number.{number}
 use Rattle.sheet.specs.Table.{item, itemLength}
 use Rattle.sheet.specs.Items.{openingAt, takesAt, givesAt, labelAt, earlierAt, laterAt}
 use Rattle.sheet.specs.Laid.{transition-within}
 use Rattle.layout.specs.Layout.{placesAt, transitionsAt, eventsAt, pairsAt, LaidBy}
 use Rattle.layout.specs.declared.Layout.{Layout}
-
-pub weights-fit : (places t : ℕ) → places ≤ mostPlaces → t < mostTransitions → 4 * places * t ≤ 4 * mostPlaces * mostTransitions
-weights-fit places t l m = mul-le-mul {n₁ = 4 * places} {n₂ = 4 * mostPlaces} (omega arith) (le-of-lt m)
 
 module _ (s : List ℕ) (l : Layout) (known : LaidBy s l) where
   pub opening-is : (p at : ℕ) → at ≡ placesAt l + 4 * p → number 4 s at ≡ openingAt s p

@@ -1,16 +1,13 @@
 -- From the marks of a sheet's pairs to its order: the rows closed, and the cycle that they show.
-use Prim.Native.Nat.{ℕ, _<_}
+use Prim.Native.Nat.{ℕ}
 use mathlib.Core.Bool.{Bool, true, false}
 use mathlib.Core.List.{List}
 use mathlib.Core.Option.{none}
 use mathlib.Core.Path.{_≡_, sym, ap, _∙_}
-use Rattle.finite.specs.Bounded.{any-ext}
-use Rattle.plan.specs.Closure.{says-before}
-use Rattle.marks.specs.Marks.{marked}
 use Rattle.closure.specs.ClosedRows.{cyclic as cyclicRows, ClosedRows}
 use Rattle.closure.specs.Ordered.{Named}
-use Rattle.closure.specs.PlanRows.{closed-successors, closed-predecessors, Successors}
-use Rattle.sheet.specs.Table.{eventsOf, pairsOf}
+use Rattle.closure.specs.PlanRows.{closed-successors, closed-predecessors, cycle-rows, Successors}
+use Rattle.sheet.specs.Table.{pairsOf}
 use Rattle.sheet.specs.Items.{planOf}
 use Rattle.sheet.specs.Faults.{noEvent, repeated, cycleAt, cyclic, orderFaults, firstFault}
 use Rattle.layout.specs.Layout.{LaidBy}
@@ -28,14 +25,10 @@ module _ (s : List ℕ) (l : Layout) (known : LaidBy s l) (all : noEvent s ≡ n
     after-rows : Successors (planOf s) succ₁
     after-rows = closed-successors (planOf s) named (known .0 .limited .events) succ succ₁ (rw (known .1 .events) at closed) (marks .pairs)
 
-    own-marked : (v : ℕ) → v < eventsOf s → marked succ₁ v v ≡ cycleAt s v
-    unfolding cycleAt
-    own-marked v h = says-before (planOf s) (marked succ₁ v v) v v (after-rows .marks v v h h)
-
     -- some event is marked in its own row exactly if the order has a cycle
     pub cycle-found : cyclicRows succ₁ (l .events) ≡ cyclic s
-    unfolding cyclicRows cyclic
-    cycle-found = rw (known .1 .events) (any-ext (eventsOf s) (λ v. marked succ₁ v v) (cycleAt s) own-marked)
+    unfolding cyclic cycleAt
+    cycle-found = rw (known .1 .events) (cycle-rows (planOf s) named succ₁ after-rows)
 
     pub ordered : (pred₁ : List ℕ) → ClosedRows pred pred₁ (l .events) (l .events) → OrderRows (planOf s) succ₁ pred₁
     ordered pred₁ turned =

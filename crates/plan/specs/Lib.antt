@@ -5,4 +5,5 @@ pub mod Prefix
 pub mod Cut
 pub mod Flow
 pub mod Compare
+pub mod OnlyPairs
 pub mod Examples

@@ -81,7 +81,7 @@ unfolding layoutFaults firstFault tooShort
 long-fault s l =
     else-next _ _ (ap (λ (b : Bool). tell 1 (plain b) .number) (le-ltb (length s) tableLength l))
 
-too-long : (s : List ℕ) → enoughBytes ≤ length s → ¬ (firstFault layoutFaults s .number ≡ 0)
+pub too-long : (s : List ℕ) → enoughBytes ≤ length s → ¬ (firstFault layoutFaults s .number ≡ 0)
 too-long s l clear = omega (arith, longest s (layout-laid s clear))
 
 -- where both have one of the four and agree on all but 4, it is the same
@@ -95,7 +95,7 @@ same-fault false false false true false m n = absurd (n refl)
 same-fault false false false false e m n = absurd (m refl)
 
 module _ (s : List ℕ) (long : enoughBytes ≤ length s) where
-  size : length (enough s) ≡ enoughBytes
+  pub size : length (enough s) ≡ enoughBytes
   size = length-take-le enoughBytes s long
 
   of-four : firstFault layoutFaults (enough s) ≡ ofFour (overLimit s) (late s) (early s) (wrongEnd (enough s))
@@ -105,7 +105,7 @@ module _ (s : List ℕ) (long : enoughBytes ≤ length s) where
       ∙ ap₂ (λ (a b : Bool). ofFour a b (early (enough s)) (wrongEnd (enough s))) (limit-enough s) (same .0)
       ∙ ap (λ (b : Bool). ofFour (overLimit s) (late s) b (wrongEnd (enough s))) (same .1)
 
-  layout-enough : firstFault layoutFaults (enough s) ≡ firstFault layoutFaults s
+  pub layout-enough : firstFault layoutFaults (enough s) ≡ firstFault layoutFaults s
   layout-enough =
       let whole = long-fault s (omega arith) in
       of-four

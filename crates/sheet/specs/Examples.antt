@@ -12,7 +12,7 @@ use Rattle.sheet.specs.Table.{start, count, limit, itemLength, item, bod
 use Rattle.sheet.specs.Items.{openingAt, takesAt, givesAt, labelAt, earlierAt, laterAt, netOf, planOf}
 use Rattle.sheet.specs.Faults.{tooShort, overLimitAt, overLimit, misplacedAt, misplaced, late, early, wrongEnd, overOpeningAt, overOpening, overWeightAt, overWeightIn, overWeight}
 use Rattle.sheet.specs.Faults.{noTransitionAt, noTransition, noEventAt, noEvent, selfPairAt, selfPair, samePair, repeatAt, repeated, cycleAt}
-use Rattle.sheet.specs.Faults.{cyclic, layoutFaults, itemFaults, orderFaults, contentFaults, faults, firstFault, faultOf}
+use Rattle.sheet.specs.Faults.{cyclic, layoutFaults, numberFaults, pairFaults, orderFaults, contentFaults, faults, firstFault, faultOf}
 use Rattle.sheet.specs.Told.{faultAt, noFault, orElse}
 use Rattle.sheet.specs.declared.Fault.{Fault}
 
@@ -153,7 +153,7 @@ unfolding told faulty put listing desk table
     openingAt takesAt givesAt labelAt earlierAt laterAt
     tooShort overLimitAt overLimit misplacedAt misplaced late early wrongEnd overOpeningAt overOpening overWeightAt overWeightIn overWeight
     noTransitionAt noTransition noEventAt noEvent selfPairAt selfPair samePair repeatAt repeated cycleAt cyclic
-    orElse layoutFaults itemFaults orderFaults contentFaults faults firstFault faultOf
+    orElse layoutFaults numberFaults pairFaults orderFaults contentFaults faults firstFault faultOf
 faults-right = tt
 
 pub examples-right : T (right examples)

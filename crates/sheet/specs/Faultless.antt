@@ -1,8 +1,8 @@
 -- What is known of a sheet with no fault: its numbers are within their limits, its names name something, and its plan is sound and labelled.
-use Prim.Native.Nat.{ℕ, zero, suc, _<_, _≤_}
+use Prim.Native.Nat.{ℕ, _<_, _≤_}
 use native.Mathlib.Omega.{arith}
 use mathlib.Core.Bool.{Bool, true, false, true≢false, _||_}
-use mathlib.Core.List.{List, [], _∷_, _++_}
+use mathlib.Core.List.{List, [], _∷_}
 use mathlib.Core.Option.{Option, none, some}
 use mathlib.Core.Path.{_≡_, refl, sym, ap, _∙_}
 use borrow.Author.Tests.{ltb-false, leb-false, eqb-false}
@@ -17,18 +17,19 @@ use Rattle.sheet.specs.Table.{placesOf, transitionsOf, eventsOf, pairsOf
 use Rattle.sheet.specs.Items.{openingAt, takesAt, givesAt, labelAt, earlierAt, laterAt, netOf, planOf}
 use Rattle.sheet.specs.Faults.{overOpeningAt, overOpening, overWeightAt, overWeightIn, overWeight, noTransitionAt, noTransition, noEventAt, noEvent, selfPairAt, selfPair}
 use Rattle.sheet.specs.Faults.{tooShort, overLimit, late, early, wrongEnd, repeated, samePair, repeatAt, cycleAt, cyclic}
-use Rattle.sheet.specs.Faults.{Finder, layoutFaults, itemFaults, orderFaults, contentFaults, faults, firstFault, faultOf}
+use Rattle.sheet.specs.Faults.{Finder, layoutFaults, numberFaults, pairFaults, orderFaults, contentFaults, faults, firstFault, faultOf}
+use Rattle.sheet.specs.Chain.{first-both}
 use Rattle.sheet.specs.Laid.{Laid, limited, placed, laid}
 use Rattle.sheet.specs.Told.{noFault, faultAt, tell, orElse, else-next, else-first, plain-none}
 use Rattle.sheet.specs.declared.Fault.{Fault}
 
 -- no fault of a list is there
-abbrev Absent : List (ℕ × Finder) → List ℕ → Type 0
+abbrev pub Absent : List (ℕ × Finder) → List ℕ → Type 0
 Absent [] s = Unit
 Absent (f ∷ fs) s = (f .1 s ≡ none) × Absent fs s
 
 -- the numbers of a list of faults are above 0
-abbrev Numbered : List (ℕ × Finder) → Type 0
+abbrev pub Numbered : List (ℕ × Finder) → Type 0
 Numbered [] = Unit
 Numbered (f ∷ fs) = T (ltb 0 (f .0)) × Numbered fs
 
@@ -38,12 +39,19 @@ passed k (some i) rest l e =
     let first = else-first (faultAt k i) rest (λ z. omega arith) in
     absurd (omega (arith, ap (λ (f : Fault). f .number) first))
 
-absent : (fs : List (ℕ × Finder)) (s : List ℕ) → Numbered fs → firstFault fs s .number ≡ 0 → Absent fs s
+pub absent : (fs : List (ℕ × Finder)) (s : List ℕ) → Numbered fs → firstFault fs s .number ≡ 0 → Absent fs s
 unfolding firstFault
 absent [] s numbered e = tt
 absent (f ∷ fs) s numbered e =
     let here = passed (f .0) (f .1 s) (firstFault fs s) (ltb→lt 0 (f .0) (numbered .0)) e in
     (here .0, absent fs s (numbered .1) (here .1))
+
+-- The numbers before the pairs are such as a sheet may have.
+pub record GoodNumbers (s : List ℕ) : Type 0 where
+  pub openings : (p : ℕ) → p < placesOf s → openingAt s p ≤ 1000000
+  pub takes : (t p : ℕ) → t < transitionsOf s → p < placesOf s → takesAt s t p ≤ 1000
+  pub gives : (t p : ℕ) → t < transitionsOf s → p < placesOf s → givesAt s t p ≤ 1000
+  pub labels : (v : ℕ) → v < eventsOf s → labelAt s v < transitionsOf s
 
 pub record Faultless (s : List ℕ) : Type 0 where
   pub laid : Laid s
@@ -92,7 +100,7 @@ no-repeat s once i j l m e d =
     (yes-and (eqb (earlierAt s i) (earlierAt s j)) (eqb (laterAt s i) (laterAt s j)) (yes-eqb e) (yes-eqb d))
 
 -- the bodies stand where they should
-stand : (s : List ℕ) → Absent layoutFaults s → Laid s
+pub stand : (s : List ℕ) → Absent layoutFaults s → Laid s
 unfolding layoutFaults
 stand s a =
     laid
@@ -101,17 +109,29 @@ stand s a =
     (placed s (plain-none (late s) (a .1 .1 .0)) (plain-none (early s) (a .1 .1 .1 .0)))
     (plain-none (wrongEnd s) (a .1 .1 .1 .1 .0))
 
+-- faults 5, 6 and 7 are absent
+pub good-numbers : (s : List ℕ) → Absent numberFaults s → GoodNumbers s
+unfolding numberFaults overOpening overOpeningAt noTransition noTransitionAt
+good-numbers s a =
+    record {
+      openings = λ p l. ltb-false 1000000 (openingAt s p) (first-none (overOpeningAt s) (placesOf s) (a .0) p l);
+      takes = λ t p l m. weights s (a .1 .0) t p l m .0;
+      gives = λ t p l m. weights s (a .1 .0) t p l m .1;
+      labels = λ v l. leb-false (transitionsOf s) (labelAt s v) (first-none (noTransitionAt s) (eventsOf s) (a .1 .1 .0) v l);
+    }
+
 pub faultless : (s : List ℕ) → faultOf s .number ≡ 0 → Faultless s
-unfolding faultOf faults layoutFaults itemFaults orderFaults contentFaults overOpening overOpeningAt noTransition noTransitionAt selfPair selfPairAt cyclic cycleAt
+unfolding faultOf faults layoutFaults numberFaults pairFaults orderFaults contentFaults selfPair selfPairAt cyclic cycleAt
 faultless s e =
     let a = absent faults s (tt, (tt, (tt, (tt, (tt, (tt, (tt, (tt, (tt, (tt, (tt, (tt, tt)))))))))))) e in
     let b = a .1 .1 .1 .1 .1 in
+    let good = good-numbers s (b .0, (b .1 .0, (b .1 .1 .0, tt))) in
     record {
       laid = stand s (a .0, (a .1 .0, (a .1 .1 .0, (a .1 .1 .1 .0, (a .1 .1 .1 .1 .0, tt)))));
-      openings = λ p l. ltb-false 1000000 (openingAt s p) (first-none (overOpeningAt s) (placesOf s) (b .0) p l);
-      takes = λ t p l m. weights s (b .1 .0) t p l m .0;
-      gives = λ t p l m. weights s (b .1 .0) t p l m .1;
-      labels = λ v l. leb-false (transitionsOf s) (labelAt s v) (first-none (noTransitionAt s) (eventsOf s) (b .1 .1 .0) v l);
+      openings = good .openings;
+      takes = good .takes;
+      gives = good .gives;
+      labels = good .labels;
       earlier = λ i l. ends s (b .1 .1 .1 .0) i l .0;
       later = λ i l. ends s (b .1 .1 .1 .0) i l .1;
       apart = λ i l. eqb-false (earlierAt s i) (laterAt s i) (first-none (selfPairAt s) (pairsOf s) (b .1 .1 .1 .1 .0) i l);
@@ -136,30 +156,9 @@ pub labelled : (s : List ℕ) → Faultless s → Labelled (netOf s) (planOf s)
 labelled s known = record { named = known .labels }
 
 -- The faults of the layout decide, or are absent and leave it to the rest.
-decided : (f x z : Fault) → (¬ (x .number ≡ 0) → z ≡ x) → ¬ (orElse f x .number ≡ 0) → (k : ℕ) → f .number ≡ k → orElse f z ≡ orElse f x
-decided f x z h n zero e =
-    let next = else-next f x e in
-    else-next f z e ∙ h (λ clear. n (ap (λ (g : Fault). g .number) next ∙ clear)) ∙ sym next
-decided f x z h n (suc k) e =
-    let there : ¬ (f .number ≡ 0) = λ clear. omega arith in
-    else-first f z there ∙ sym (else-first f x there)
-
-first-decides : (fs gs : List (ℕ × Finder)) (s : List ℕ) → ¬ (firstFault fs s .number ≡ 0) → firstFault (fs ++ gs) s ≡ firstFault fs s
-unfolding firstFault
-first-decides [] gs s n = absurd (n refl)
-first-decides (f ∷ fs) gs s n =
-    decided (tell (f .0) (f .1 s)) (firstFault fs s) (firstFault (fs ++ gs) s) (first-decides fs gs s) n _ refl
-
-left-over : (fs gs : List (ℕ × Finder)) (s : List ℕ) → Absent fs s → firstFault (fs ++ gs) s ≡ firstFault gs s
-unfolding firstFault
-left-over [] gs s a = refl
-left-over (f ∷ fs) gs s a =
-    else-next (tell (f .0) (f .1 s)) (firstFault (fs ++ gs) s) (ap (λ (o : Option ℕ). tell (f .0) o .number) (a .0))
-    ∙ left-over fs gs s (a .1)
-
 pub layout-decides : (s : List ℕ) → ¬ (firstFault layoutFaults s .number ≡ 0) → faultOf s ≡ firstFault layoutFaults s
 unfolding faultOf faults
-layout-decides s n = first-decides layoutFaults contentFaults s n
+layout-decides s n = first-both layoutFaults contentFaults s ∙ else-first (firstFault layoutFaults s) (firstFault contentFaults s) n
 
 layout-absent : (s : List ℕ) → firstFault layoutFaults s .number ≡ 0 → Absent layoutFaults s
 unfolding layoutFaults
@@ -170,4 +169,4 @@ layout-laid s e = stand s (layout-absent s e)
 
 pub content-decides : (s : List ℕ) → firstFault layoutFaults s .number ≡ 0 → faultOf s ≡ firstFault contentFaults s
 unfolding faultOf faults
-content-decides s e = left-over layoutFaults contentFaults s (layout-absent s e)
+content-decides s e = first-both layoutFaults contentFaults s ∙ else-next (firstFault layoutFaults s) (firstFault contentFaults s) e

@@ -119,16 +119,20 @@ unfoldable pub layoutFaults : List (ℕ × Finder)
 layoutFaults =
     (1, itemless tooShort) ∷ (2, itemless overLimit) ∷ (14, itemless late) ∷ (15, itemless early) ∷ (4, itemless wrongEnd) ∷ []
 
--- and only once those are absent what stands in them: first in each item,
-unfoldable pub itemFaults : List (ℕ × Finder)
-itemFaults = (5, overOpening) ∷ (6, overWeight) ∷ (7, noTransition) ∷ (8, noEvent) ∷ (9, selfPair) ∷ []
+-- and only once those are absent what stands in them: first in the numbers before the pairs,
+unfoldable pub numberFaults : List (ℕ × Finder)
+numberFaults = (5, overOpening) ∷ (6, overWeight) ∷ (7, noTransition) ∷ []
+
+-- then in each pair,
+unfoldable pub pairFaults : List (ℕ × Finder)
+pairFaults = (8, noEvent) ∷ (9, selfPair) ∷ []
 
 -- then in the pairs together.
 unfoldable pub orderFaults : List (ℕ × Finder)
 orderFaults = (10, repeated) ∷ (11, itemless cyclic) ∷ []
 
 unfoldable pub contentFaults : List (ℕ × Finder)
-contentFaults = itemFaults ++ orderFaults
+contentFaults = numberFaults ++ pairFaults ++ orderFaults
 
 unfoldable pub faults : List (ℕ × Finder)
 faults = layoutFaults ++ contentFaults

@@ -86,19 +86,19 @@ laid s known right ends =
     }
 
 -- an item of n lies within their body
-item-within : (k i n : ℕ) → i < n → k * i + k ≤ k * n
+pub item-within : (k i n : ℕ) → i < n → k * i + k ≤ k * n
 item-within k i n l = rw mul-suc at (mul-le-mul-left {m = suc i} k l)
 
--- how far all items of the transitions reach
-pub weights-most : (s : List ℕ) → Limited s → 4 * placesOf s * transitionsOf s ≤ 4 * mostPlaces * mostTransitions
-weights-most s known = mul-le-mul {n₁ = 4 * placesOf s} {n₂ = 4 * mostPlaces} (omega arith) (known .transitions)
+-- how far the items of some transitions reach
+pub weights-fit : (places transitions : ℕ) → places ≤ mostPlaces → transitions ≤ mostTransitions → 4 * places * transitions ≤ 4 * mostPlaces * mostTransitions
+weights-fit places transitions l m = mul-le-mul {n₁ = 4 * places} {n₂ = 4 * mostPlaces} (omega arith) m
 
 -- the bytes of a sheet with the most items of each kind
 abbrev pub longestSheet : ℕ
 longestSheet = tableLength + 4 * mostPlaces + 4 * mostPlaces * mostTransitions + 2 * mostEvents + 4 * mostPairs
 
 pub longest : (s : List ℕ) → Laid s → length s ≤ longestSheet
-longest s known = omega (arith, weights-most s (known .limited))
+longest s known = omega (arith, weights-fit (placesOf s) (transitionsOf s) (known .limited .places) (known .limited .transitions))
 
 -- A transition's item lies within the sheet. Where the length of an item is known, the starts say so by themselves.
 pub transition-within : (s : List ℕ) → Laid s → (t : ℕ) → t < transitionsOf s → start s 1 + 4 * placesOf s * t + 4 * placesOf s ≤ length s

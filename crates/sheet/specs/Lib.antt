@@ -4,6 +4,7 @@ pub mod Told
 pub mod Faults
 pub mod Laid
 pub mod Faultless
+pub mod Clear
 pub mod Chain
 pub mod Examples
 pub mod Enough

@@ -14,7 +14,7 @@ use Rattle.sheet.specs.Told.{noFault, faultAt, tell, plain, plain-item, 
 use Rattle.sheet.specs.declared.Fault.{Fault}
 use Rattle.sheet.specs.Faults.{tooShort, overLimit, misplacedAt, misplaced, lateAt, late, earlyAt, early, wrongEnd, overOpeningAt, overOpening, overWeightIn, overWeight}
 use Rattle.sheet.specs.Faults.{noTransitionAt, noTransition, noEventAt, noEvent, selfPairAt, selfPair, repeatAt, repeated, cyclic}
-use Rattle.sheet.specs.Faults.{Finder, layoutFaults, itemFaults, orderFaults, contentFaults, faults, firstFault, faultOf}
+use Rattle.sheet.specs.Faults.{Finder, layoutFaults, numberFaults, pairFaults, orderFaults, contentFaults, faults, firstFault, faultOf}
 
 -- The fault k of a sheet s, beside the item i: each number with what it says. 3, 12 and 13 are no fault of a sheet.
 pub data FaultSays (s : List ℕ) : ℕ → ℕ → Type 0 where
@@ -78,7 +78,7 @@ module _ (s : List ℕ) where
   early-says (some e) is below = fault-15 e (first-is (misplacedAt s) 4 e is) (ltb-true (start s e) (due s e) below)
 
   pub located : FaultSays s (faultOf s .number) (faultOf s .item)
-  unfolding faultOf faults layoutFaults itemFaults orderFaults contentFaults late early overOpening overWeight noTransition noEvent selfPair repeated
+  unfolding faultOf faults layoutFaults numberFaults pairFaults orderFaults contentFaults late early overOpening overWeight noTransition noEvent selfPair repeated
   located =
       first-each
       (λ f. FaultSays s (f .number) (f .item))

@@ -52,6 +52,11 @@ pub else-first : (f g : Fault) → ¬ (f .number ≡ 0) → orElse f g ≡ f
 unfolding orElse
 else-first f g n = unless-some (f .number) f g n
 
+-- the last fault that is looked for
+pub else-last : (k : ℕ) (o : Option ℕ) → 0 < k → orElse (tell k o) noFault ≡ tell k o
+else-last k none l = else-next noFault noFault refl
+else-last k (some i) l = else-first (faultAt k i) noFault (λ z. omega arith)
+
 pub plain-none : (b : Bool) → plain b ≡ none → b ≡ false
 plain-none true e = absurd (Option·some-ne-none 0 e)
 plain-none false e = refl

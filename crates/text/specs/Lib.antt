@@ -1,4 +1,5 @@
 pub mod Words
 pub mod Put
+pub mod Putting
 pub mod Digits
 pub mod Signed

@@ -64,6 +64,10 @@ put-then {old} {mid} {new} {at} {text} {more} {between} {end} first second =
         ∙ drop-drop (length more) between old
         ∙ ap (λ (n : ℕ). drop n old) (sym (second .ends))
 
+-- a text that was put, by what it says
+pub put-says : {old new : List ℕ} {at : ℕ} {text : List ℕ} {end : ℕ} → Put old new at text end → (more : List ℕ) → text ≡ more → Put old new at more end
+put-says put more e = rw e at put
+
 -- A loop that puts a word byte by byte.
 module _ (old : List ℕ) (at : ℕ) (word : List ℕ) where
   pub word-start : at ≤ length old → Put old old at (take 0 word) (at + 0)

@@ -17,7 +17,8 @@ pub fn put_word(row: &mut [u8], at: usize, word: &[u8]) -> usize
     at + word.len()
 }
 
-fn low(x: u32) -> u8
+// A byte, by its number.
+pub fn low(x: u32) -> u8
     requires { ⌜ x ≤ 255 ⌝ }
     ensures { λ r. ⌜ r ≡ x ⌝ }
 {

@@ -3,7 +3,7 @@ use Prim.Native.Nat.{ℕ, zero, suc, _-_, _*_, _/_, _≤_, _<_}
 use native.Mathlib.Nat.{le-antisymm, le-of-lt, not-suc-le-zero}
 use native.Mathlib.Omega.{arith}
 use mathlib.Core.Logic.{_⊎_, inl, inr, ⊎-elim, _↔_}
-use mathlib.Core.Path.{_≡_, refl, sym, subst, subst₂}
+use mathlib.Core.Path.{_≡_, refl, sym, subst}
 use lib.Dec.{T, T-not, ltb, ltb→lt, nltb→le}
 use Rattle.finite.specs.Bounded.{below-suc, decide, same}
 use Rattle.finite.specs.Count.{count}
@@ -13,6 +13,7 @@ use Rattle.plan.specs.Net.{Plan}
 use Rattle.plan.specs.Order.{Before, pair, chain, before, Independent, independent, freeCount, IsChain}
 use Rattle.plan.specs.Closure.{before-test, independent-test}
 use Rattle.plan.specs.Compare.{ImpliedPairs}
+use Rattle.plan.specs.OnlyPairs.{before-among}
 
 -- Of two independent events either may come first, so that counted both ways round each two are counted twice.
 pub free-twice : (P : Plan) → sum (P .events) (λ v. count (P .events) (λ u. independent P u v)) ≡ 2 * freeCount P
@@ -55,16 +56,12 @@ free-same P Q events order =
 
 -- Pairs that the order implies leave "before" as it is.
 module _ (P Q : Plan) (more : ImpliedPairs P Q) where
-  first-before : {u v : ℕ} → Before P u v → Before Q u v
-  first-before (pair i l) = let j = more .kept i l in subst₂ (Before Q) (sym (j .2)) (sym (j .3)) (pair (j .0) (j .1))
-  first-before (chain b c) = chain (first-before b) (first-before c)
-
   second-before : {u v : ℕ} → Before Q u v → Before P u v
   second-before (pair j l) = more .implied j l
   second-before (chain b c) = chain (second-before b) (second-before c)
 
   pub implied-before : (u v : ℕ) → Before P u v ↔ Before Q u v
-  implied-before u v = (first-before, second-before)
+  implied-before u v = (before-among P Q (more .kept), second-before)
 
 module _ (P : Plan) where
   pub chain-free : IsChain P → freeCount P ≡ 0

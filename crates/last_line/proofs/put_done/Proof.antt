@@ -2,7 +2,7 @@
 use native.Mathlib.Omega.{arith}
 use borrow.Author.Needs.{needs}
 use Rattle.text.specs.Words.{word}
-use Rattle.lines.specs.Each.{done-none, done-some}
+use Rattle.lines.specs.DoneEvents.{done-none, done-some}
 use Rattle.last_line.proofs.put_done.Statement.{statement}
 use Rattle.last_line.proofs.put_done.Tie as tie
 

@@ -5,7 +5,7 @@ use borrow.Author.Needs.{needs}
 use Rattle.search.specs.Row.{members}
 use Rattle.lines.specs.Room.{eventRoom}
 use Rattle.lines.specs.Listing.{eventIn}
-use Rattle.lines.specs.Each.{Putting, each-start, each-more, each-done}
+use Rattle.text.specs.Putting.{Putting, each-start, each-more, each-done}
 use Rattle.last_line.proofs.put_events.Statement.{statement}
 use Rattle.last_line.proofs.put_events.Tie as tie
 

@@ -2,7 +2,7 @@
 use borrow.Author.Needs.{needs}
 use Rattle.text.specs.Words.{word}
 use Rattle.lines.specs.Listing.{firstLine}
-use Rattle.lines.specs.Each.{_then_}
+use Rattle.text.specs.Putting.{_then_}
 use Rattle.last_line.proofs.put_first.Statement.{statement}
 use Rattle.last_line.proofs.put_first.Tie as tie
 

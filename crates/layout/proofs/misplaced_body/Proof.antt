@@ -10,7 +10,8 @@ use Rattle.finite.specs.Search.{search-start}
 use Rattle.sheet.specs.Faults.{misplacedAt}
 use Rattle.layout.specs.Layout.{LayoutOf}
 use Rattle.layout.proofs.Starts.{wrong-here, right-here, last-here}
-use Rattle.layout.proofs.Table.{weights-fit, due-first, due-transitions, due-events, due-pairs}
+use Rattle.sheet.specs.Laid.{weights-fit}
+use Rattle.layout.proofs.Table.{due-first, due-transitions, due-events, due-pairs}
 use Rattle.layout.proofs.misplaced_body.Statement.{statement}
 use Rattle.layout.proofs.misplaced_body.Tie as tie
 
@@ -38,12 +39,12 @@ returns-2 c s is =
     wrong-here s 1 (omega arith) (first-right passed s is) _ _ (is .transitions-at) (due-transitions s _ is) _ (two .start-fault2 .ensures) (c .if2 .taken)
 
 mul-start-fault-3 : tie.Need-mul-start-fault-3
-mul-start-fault-3 c = let start : tie.Start = search in omega (arith, weights-fit _ (start .pre .0))
+mul-start-fault-3 c = let start : tie.Start = search in omega (arith, weights-fit _ _ (start .pre .0 .places) (start .pre .0 .transitions))
 
 add-start-fault-2 : tie.Need-add-start-fault-2
 add-start-fault-2 c =
     let start : tie.Start = search in
-    omega (arith, weights-fit _ (start .pre .0), start .pre .1 .transitions)
+    omega (arith, weights-fit _ _ (start .pre .0 .places) (start .pre .0 .transitions), start .pre .1 .transitions)
 
 returns-3 : tie.Need-returns-3
 returns-3 c s is =

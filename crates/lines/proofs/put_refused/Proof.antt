@@ -2,7 +2,7 @@
 use borrow.Author.Needs.{needs}
 use Rattle.text.specs.Words.{word}
 use Rattle.lines.specs.Listing.{refusedLine}
-use Rattle.lines.specs.Each.{_then_}
+use Rattle.text.specs.Putting.{_then_}
 use Rattle.lines.proofs.put_refused.Statement.{statement}
 use Rattle.lines.proofs.put_refused.Tie as tie
 

@@ -1,7 +1,7 @@
 -- `listed::put_counts`: the lines are put one after another, and tell the counts of the sheet, by `counts-are`.
 use native.Mathlib.Omega.{arith}
 use borrow.Author.Needs.{needs}
-use Rattle.lines.specs.Each.{_then_}
+use Rattle.text.specs.Putting.{_then_}
 use Rattle.listed.proofs.Judging.{order-in, counts-are}
 use Rattle.listed.proofs.put_counts.Statement.{statement}
 use Rattle.listed.proofs.put_counts.Tie as tie

@@ -3,7 +3,7 @@
 use native.Mathlib.Omega.{arith}
 use borrow.Author.Needs.{needs}
 use denote.Ref.{now}
-use Rattle.lines.specs.Each.{_then_}
+use Rattle.text.specs.Putting.{_then_}
 use Rattle.listed.proofs.Judging.{Told, least-row, missing-row, small, told, few-places, lines-are}
 use Rattle.listed.proofs.put_lines.Statement.{statement}
 use Rattle.listed.proofs.put_lines.Tie as tie

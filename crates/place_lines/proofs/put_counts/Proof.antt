@@ -5,7 +5,8 @@ use lib.IntN.{subℕ}
 use borrow.Author.Needs.{needs}
 use Rattle.text.specs.Words.{word, signed}
 use Rattle.lines.specs.Listing.{field, placeLine}
-use Rattle.lines.specs.Each.{_then_, says}
+use Rattle.text.specs.Putting.{_then_}
+use Rattle.text.specs.Put.{put-says}
 use Rattle.place_lines.proofs.put_counts.Statement.{statement}
 use Rattle.place_lines.proofs.put_counts.Tie as tie
 
@@ -44,9 +45,9 @@ returns c =
     let a = place count .put-field .ensures in
     let b = opening count .put-field2 .ensures in
     let d = name count .put-word .ensures in
-    let opens = says (b .0) (field " open " (start count .args .opening)) (ap (field " open ") (omega arith)) in
-    let ends = says (count .put-signed .ensures .0) (signed (subℕ (start count .args .gained) (start count .args .lost))) refl in
-    let less = says (spare .put-signed2 .ensures .0) (signed (subℕ (start count .args .opening) (start count .args .least))) refl in
+    let opens = put-says (b .0) (field " open " (start count .args .opening)) (ap (field " open ") (omega arith)) in
+    let ends = put-says (count .put-signed .ensures .0) (signed (subℕ (start count .args .gained) (start count .args .lost))) refl in
+    let less = put-says (spare .put-signed2 .ensures .0) (signed (subℕ (start count .args .opening) (start count .args .least))) refl in
     (a .0 then opens then d then ends then named .put-word2 .ensures then less then end .put-word3 .ensures, omega (arith, a .1, b .1, d .ends))
 
 pub put-counts-spec : {M : Type 1} → statement M

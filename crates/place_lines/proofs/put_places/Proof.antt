@@ -6,7 +6,7 @@ use Rattle.sheet.specs.Table.{placesOf}
 use Rattle.sheet.specs.Items.{netOf, planOf}
 use Rattle.lines.specs.Room.{placeRoom}
 use Rattle.lines.specs.Listing.{lineOf}
-use Rattle.lines.specs.Each.{Putting, each-start, each-more, each-done}
+use Rattle.text.specs.Putting.{Putting, each-start, each-more, each-done}
 use Rattle.place_lines.proofs.put_places.Statement.{statement}
 use Rattle.place_lines.proofs.put_places.Tie as tie
 
