@@ -1,0 +1,4 @@
+pub mod Written
+pub mod Lengths
+pub mod ReadBack
+pub mod WriteBack
