@@ -1,0 +1,3 @@
+mod Keeping
+mod Parts
+mod Answers

@@ -1,0 +1,3 @@
+mod Tests
+mod Rows
+mod Giving
