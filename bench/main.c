@@ -1,8 +1,9 @@
-// The benchmark: ratios of the archive's time to its peers' for each kind of sheet, of a listing's to the plan judgement's, the bars, and
-// the growth.
+// The benchmark: ratios of the archive's time to its peers' for each kind of sheet, of a listing's to the plan judgement's, of mending to judging
+// faults, the bars, and the growth.
 #include "growth.h"
 #include "listing_table.h"
 #include "measure.h"
+#include "mending_table.h"
 
 #include <stdio.h>
 #include <stdlib.h>
@@ -85,10 +86,12 @@ int main(int count, char **words)
         judge_kind(&kinds[k], sheets, &summary);
     }
     print_listing(sheets, summary.listing_missed);
+    int mending_missed = print_mending(sheets);
     summary.differ += print_growth(sheets < 5 ? sheets : 5);
 
     printf("\n%u sheets of these kinds, and those of the growth; judged differently: %u\n", summary.sheets, summary.differ);
     int missed = print_bar(&summary);
     missed |= print_listing_bar(summary.listing_missed);
-    return summary.differ > 0 || missed;
+    print_mending_bar(mending_missed);
+    return summary.differ > 0 || missed || mending_missed;
 }

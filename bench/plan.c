@@ -1,20 +1,12 @@
 // Reads a sheet into plain arrays, with every fault of a sheet, and works out "before" and the skeleton.
 #include "plan.h"
 
+#include "words.h"
+
 #include <stdbool.h>
 #include <string.h>
 
 enum { CONTENTS = 32 };
-
-static uint32_t get16(const uint8_t *at)
-{
-    return (uint32_t)at[0] | (uint32_t)at[1] << 8;
-}
-
-static uint32_t get32(const uint8_t *at)
-{
-    return get16(at) | get16(at + 2) << 16;
-}
 
 // A start and an item count as the table of contents gives them.
 static uint32_t start_given(const uint8_t *sheet, unsigned entry)

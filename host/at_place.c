@@ -5,7 +5,7 @@
 
 static size_t flow_length(const struct trial *trial)
 {
-    return trial_needs(trial, trial->due.plan.pairs + trial->due.plan.events);
+    return trial_needs(trial, trial->due.fault == 0, trial->due.plan.pairs + trial->due.plan.events);
 }
 
 static uint32_t fault_at(const struct trial *trial, size_t place, int too_short)
@@ -52,7 +52,7 @@ void try_place(struct trial *trial, size_t place, int flow_enough, int marks_eno
     struct number item = number_of_junk(trial->r), spare = number_of_junk(trial->r);
     const uint8_t *sheet = trial_lend(trial, PLACE);
     int flow_short = trial_lend_row(trial, 0, &trial->flow, flow_length(trial), flow_enough);
-    int marks_short = trial_lend_row(trial, 1, &trial->marks, trial_needs(trial, trial->due.plan.events), marks_enough);
+    int marks_short = trial_lend_row(trial, 1, &trial->marks, trial_needs(trial, trial->due.fault == 0, trial->due.plan.events), marks_enough);
     uint32_t fault = fault_at(trial, place, flow_short || marks_short);
 
     trial->place = place;

@@ -1,12 +1,13 @@
 // Compares all calls of the archive with an independent judge on random sheets, short and long, faultless and damaged.
 // usage: compare [SHORT [LONG]]    as many short and long sheets; each is judged as it is and with damages
 #include "at_place.h"
+#include "mend.h"
 #include "whole.h"
 
 #include <stdio.h>
 #include <stdlib.h>
 
-enum { DAMAGES = 3, FEW_PLACES = 4, WRONG_PLACES = 2 };
+enum { DAMAGES = 3, EXPORTS = 2, FEW_PLACES = 4, WRONG_PLACES = 2 };
 
 // A place number that isn't in the net; some would be if only their last bits were read.
 static size_t wrong_place(const struct trial *trial)
@@ -62,14 +63,22 @@ static void try_sheet(struct trial *trial, const struct bytes *sheet)
         try_places(trial);
     else
         try_refused(trial);
+    try_mending(trial); // the last, since it goes on to another sheet
 }
 
-// A sheet as it is, then with damages: one, or two at once.
+// A sheet as it is, then as the old export writes it, some damaged too, then with damages: one, or two at once.
 static void try_all(struct trial *trial, const struct bytes *sheet)
 {
     static struct bytes damaged;
 
     try_sheet(trial, sheet);
+    for (int i = 0; i < EXPORTS; i++) {
+        damaged = *sheet;
+        make_export(&damaged, trial->r);
+        if (random_below(trial->r, 8) == 0)
+            make_damage(&damaged, trial->r);
+        try_sheet(trial, &damaged);
+    }
     for (int i = 0; i < DAMAGES; i++) {
         damaged = *sheet;
         for (unsigned more = random_below(trial->r, 4) == 0 ? 2 : 1; more > 0; more--)

@@ -2,6 +2,8 @@
 #include "make.h"
 
 #include "independent.h"
+#include "old_export.h"
+#include "words.h"
 
 #include <string.h>
 
@@ -15,21 +17,6 @@ static void put32(struct bytes *sheet, uint32_t number)
 {
     put16(sheet, number & 0xffff);
     put16(sheet, number >> 16);
-}
-
-static uint32_t word_at(const struct bytes *sheet, size_t at)
-{
-    uint32_t word = 0;
-
-    for (int i = 3; i >= 0; i--)
-        word = word << 8 | sheet->at[at + (size_t)i];
-    return word;
-}
-
-static void set_word(struct bytes *sheet, size_t at, uint32_t word)
-{
-    for (int i = 0; i < 4; i++)
-        sheet->at[at + (size_t)i] = (uint8_t)(word >> 8 * i);
 }
 
 static void put_contents(struct bytes *sheet, const unsigned count[4])
@@ -69,7 +56,7 @@ static void set_openings(struct bytes *sheet, struct random *r)
     if (plan_read(sheet->at, sheet->length, &plan) != 0)
         return;
     for (unsigned p = 0; p < plan.places; p++)
-        set_word(sheet, 32 + 4 * p, draw_opening(independent_least(&plan, p, NULL), r));
+        set32(sheet->at + 32 + 4 * p, draw_opening(independent_least(&plan, p, NULL), r));
 }
 
 // Pairs from lower to higher in a random numbering, each with the same chance.
@@ -134,6 +121,19 @@ void make_long(struct bytes *sheet, struct random *r, unsigned number, int full)
     set_openings(sheet, r);
 }
 
+// Adds a few pairs, or as many as there may be, half of the time on long sheets.
+void make_export(struct bytes *sheet, struct random *r)
+{
+    unsigned pairs = get32(sheet->at + 28), is_long = get32(sheet->at + 20) > 8;
+    unsigned more = random_below(r, is_long ? 2 : 32) == 0 ? MAX_PAIRS : 1 + random_below(r, 12);
+
+    if (pairs + more > MAX_PAIRS)
+        sheet->length = export_cut(sheet->at, sheet->length, random_below(r, pairs + 1));
+    sheet->length = export_add(sheet->at, sheet->length, more, 1 + random_below(r, EXPORT_TWICE | EXPORT_SELF | EXPORT_STRUCK), r);
+    if (random_below(r, 4) == 0)
+        sheet->length = export_add(sheet->at, sheet->length, 1, EXPORT_BACK, r);
+}
+
 // Damages. Each leaves a sheet alone that has nothing of what it changes.
 
 static void flip_bits(struct bytes *sheet, struct random *r)
@@ -174,16 +174,16 @@ static void change_table(struct bytes *sheet, struct random *r)
         return;
     switch (random_below(r, 4)) {
     case 0:
-        set_word(sheet, at, word_at(sheet, at) + 1);
+        set32(sheet->at + at, get32(sheet->at + at) + 1);
         break;
     case 1:
-        set_word(sheet, at, word_at(sheet, at) - 1);
+        set32(sheet->at + at, get32(sheet->at + at) - 1);
         break;
     case 2:
-        set_word(sheet, at, 1u << random_below(r, 32));
+        set32(sheet->at + at, 1u << random_below(r, 32));
         break;
     default:
-        set_word(sheet, at, (uint32_t)random_next(r));
+        set32(sheet->at + at, (uint32_t)random_next(r));
     }
 }
 
@@ -195,34 +195,34 @@ static void move_starts(struct bytes *sheet, struct random *r)
     for (int moved = 0; moved < 2; moved++) {
         size_t at = 8 * random_below(r, PLAN_ENTRIES);
         uint32_t by = 1 + random_below(r, 4);
-        set_word(sheet, at, random_below(r, 2) == 0 ? word_at(sheet, at) + by : word_at(sheet, at) - by);
+        set32(sheet->at + at, random_below(r, 2) == 0 ? get32(sheet->at + at) + by : get32(sheet->at + at) - by);
     }
 }
 
 // One pair more, made of an old one: the other way round, the same again, or an event with itself.
 static void add_pair(struct bytes *sheet, struct random *r)
 {
-    unsigned pairs = word_at(sheet, 28);
-    size_t start = word_at(sheet, 24);
+    unsigned pairs = get32(sheet->at + 28);
+    size_t start = get32(sheet->at + 24);
 
     if (sheet->length < 36 || pairs == 0 || pairs > MAX_PAIRS || sheet->length != start + 4 * pairs)
         return;
-    uint32_t old = word_at(sheet, start + 4 * random_below(r, pairs));
+    uint32_t old = get32(sheet->at + start + 4 * random_below(r, pairs));
     uint32_t added[] = {old >> 16 | old << 16, old, (old & 0xffff) * 0x10001u};
-    set_word(sheet, 28, pairs + 1);
+    set32(sheet->at + 28, pairs + 1);
     put32(sheet, added[random_below(r, 3)]);
 }
 
 // One of the body's numbers just past its limit.
 static void pass_limit(struct bytes *sheet, struct random *r)
 {
-    uint32_t places = word_at(sheet, 4), transitions = word_at(sheet, 12), events = word_at(sheet, 20), pairs = word_at(sheet, 28);
+    uint32_t places = get32(sheet->at + 4), transitions = get32(sheet->at + 12), events = get32(sheet->at + 20), pairs = get32(sheet->at + 28);
     const uint32_t count[] = {places, 2 * places * transitions, events, 2 * pairs}, past[] = {MAX_OPENING + 1, MAX_WEIGHT + 1, transitions, events};
     unsigned body = random_below(r, 4), size = body == 0 ? 4 : 2;
 
     if (sheet->length < 32 || count[body] == 0)
         return;
-    size_t at = word_at(sheet, 8 * body) + (size_t)size * random_below(r, count[body]);
+    size_t at = get32(sheet->at + 8 * body) + (size_t)size * random_below(r, count[body]);
     for (unsigned i = 0; i < size && at + i < sheet->length; i++)
         sheet->at[at + i] = (uint8_t)(past[body] >> 8 * i);
 }

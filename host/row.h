@@ -5,7 +5,7 @@
 #include "guarded.h"
 #include "random.h"
 
-enum { ROW_BYTES = 1 << 13, ROW_MORE = 8 }; // the longest row, and how many entries more than needed it may have
+enum { ROW_BYTES = 1 << 15, ROW_MORE = 8 }; // the longest row, and how many entries more than needed it may have
 
 struct row {
     struct guarded memory;

@@ -9,6 +9,7 @@
 #include <unistd.h>
 
 #include "independent.h"
+#include "old_export.h"
 #include "reedanchor.h"
 #include "sheets.h"
 
@@ -17,7 +18,7 @@ enum { STACK_BYTES = 4 << 20, PAINT = 0xa5, NUMBERS = 2, PLACE_STEP = 9 };
 static struct sheet sheet;
 static size_t place;
 static uint32_t missing[REEDANCHOR_ROW_LENGTH], flow[REEDANCHOR_FLOW_LENGTH];
-static uint8_t marks[REEDANCHOR_MARKS_LENGTH], text[REEDANCHOR_TEXT_LENGTH];
+static uint8_t marks[REEDANCHOR_MARKS_LENGTH], text[REEDANCHOR_TEXT_LENGTH], clean[REEDANCHOR_CLEAN_LENGTH], reasons[REEDANCHOR_REASONS_LENGTH];
 static uint32_t fault; // what the last call returned
 
 static void call_judge(void)
@@ -61,19 +62,28 @@ static void call_listing(void)
     fault = reedanchor_listing(sheet.bytes, sheet.length, text, REEDANCHOR_TEXT_LENGTH, &written);
 }
 
+static void call_mend(void)
+{
+    uint32_t item;
+    size_t written;
+
+    fault = reedanchor_mend(sheet.bytes, sheet.length, clean, REEDANCHOR_CLEAN_LENGTH, reasons, REEDANCHOR_REASONS_LENGTH, &item, &written);
+}
+
 // The calls, in an order in which each is measured; the flow check gets the flow that the place judgement left.
 static struct {
     const char *name;
     void (*make)(void);
     size_t enough, most; // bytes by the header, and the most used
-    int at_places;
+    int at_places, mends;
 } calls[] = {
-    {"judge", call_judge, REEDANCHOR_STACK_JUDGE, 0, 0},
-    {"fault", call_fault, REEDANCHOR_STACK_FAULT, 0, 0},
-    {"plan", call_plan, REEDANCHOR_STACK_PLAN, 0, 0},
-    {"place", call_place, REEDANCHOR_STACK_PLACE, 0, 1},
-    {"check_flow", call_check_flow, REEDANCHOR_STACK_CHECK_FLOW, 0, 1},
-    {"listing", call_listing, REEDANCHOR_STACK_LISTING, 0, 0},
+    {"judge", call_judge, REEDANCHOR_STACK_JUDGE, 0, 0, 0},
+    {"fault", call_fault, REEDANCHOR_STACK_FAULT, 0, 0, 0},
+    {"plan", call_plan, REEDANCHOR_STACK_PLAN, 0, 0, 0},
+    {"place", call_place, REEDANCHOR_STACK_PLACE, 0, 1, 0},
+    {"check_flow", call_check_flow, REEDANCHOR_STACK_CHECK_FLOW, 0, 1, 0},
+    {"listing", call_listing, REEDANCHOR_STACK_LISTING, 0, 0, 0},
+    {"mend", call_mend, REEDANCHOR_STACK_MEND, 0, 0, 1},
 };
 
 enum { CALLS = sizeof calls / sizeof *calls };
@@ -151,8 +161,19 @@ static void measure_all(void)
                 measure(call);
 }
 
+// The sheet as the old export would write it, with pairs to drop for every reason, which mending alone takes.
+static void measure_mending(struct random *r)
+{
+    sheet.length = export_cut(sheet.bytes, sheet.length, MAX_PAIRS / 2);
+    sheet.length = export_add(sheet.bytes, sheet.length, MAX_PAIRS, EXPORT_TWICE | EXPORT_SELF | EXPORT_STRUCK, r);
+    for (unsigned call = 0; call < CALLS; call++)
+        if (calls[call].mends)
+            measure(call);
+}
+
 int main(void)
 {
+    struct random r = {13};
     int enough = 1;
 
     open_stack();
@@ -161,6 +182,7 @@ int main(void)
             sheet_of_kind(&sheet, &kinds[kind], number);
             set_openings();
             measure_all();
+            measure_mending(&r);
         }
     printf("bytes of stack, at most, on %u sheets at the limits:", kind_count * NUMBERS);
     for (unsigned call = 0; call < CALLS; call++) {

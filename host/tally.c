@@ -6,7 +6,7 @@
 
 #include "reedanchor.h"
 
-const char *const call_names[CALLS] = {"judge", "fault", "plan", "place", "check_flow", "listing"};
+const char *const call_names[CALLS] = {"judge", "fault", "plan", "place", "check_flow", "listing", "mend"};
 
 static const char *const way_names[WAYS] = {
     [WALKED] = "all done sets walked",
@@ -32,6 +32,19 @@ static const char *const way_names[WAYS] = {
     [WRONG_PLACE_SHORT_ROW] = "wrong place and short row",
     [FLOW_SHORT_ALONE] = "flow row alone too short",
     [MARKS_SHORT_ALONE] = "marks alone too short",
+    [CLEAN_SHORT_ALONE] = "clean row alone too short",
+    [REASONS_SHORT_ALONE] = "reasons alone too short",
+    [CLEAN_ROW_BETWEEN] = "clean row too short for the sheet given alone",
+    [CYCLE_SHORT_ROW] = "cycle of kept pairs and short row",
+    [CYCLE_AND_DROPPED] = "cycle of kept pairs beside dropped ones",
+    [EVERY_REASON] = "every reason in one sheet",
+    [ALL_DROPPED] = "all pairs dropped",
+    [MOST_PAIRS] = "some of 1,024 pairs dropped",
+    [STRUCK_SELF] = "pair of one number that no event has",
+    [STRUCK_AGAIN] = "pair that names no event again",
+    [SELF_AGAIN] = "self-pair again",
+    [REPEAT_APART] = "repeat apart from its like",
+    [MENDED_AGAIN] = "mended sheet mended again",
 };
 
 int tally_knows(enum call call, uint32_t fault)
@@ -51,11 +64,12 @@ int tally_knows(enum call call, uint32_t fault)
     case REEDANCHOR_OVER_OPENING:
     case REEDANCHOR_OVER_WEIGHT:
     case REEDANCHOR_NO_TRANSITION:
+    case REEDANCHOR_CYCLE:
+        return call != LISTING;
     case REEDANCHOR_NO_EVENT:
     case REEDANCHOR_SELF_PAIR:
     case REEDANCHOR_REPEATED_PAIR:
-    case REEDANCHOR_CYCLE:
-        return call != LISTING;
+        return call != LISTING && call != MEND;
     default:
         return 0;
     }
@@ -75,14 +89,30 @@ unsigned long tally_calls(const struct tally *tally)
     return all;
 }
 
+static void print_faults(const struct tally *tally, enum call call)
+{
+    printf("; faults of %s", call_names[call]);
+    for (uint32_t fault = 1; fault < FAULTS; fault++)
+        if (tally_knows(call, fault))
+            printf("%s %u %lu", fault == 1 ? "" : ",", fault, tally->faults[call][fault]);
+}
+
+static void print_reasons(const struct tally *tally)
+{
+    for (int reason = 0; reason < REASONS; reason++)
+        printf("%s %d %lu", reason == 0 ? "; pairs by reason" : ",", reason, tally->reasons[reason]);
+    for (int reason = 0; reason < REASONS; reason++)
+        printf("%s %d %lu", reason == 0 ? "; sheets by one alone" : ",", reason, tally->reason_alone[reason]);
+}
+
 void tally_print(const struct tally *tally)
 {
     printf("%lu calls on %lu sheets as is due:", tally_calls(tally), tally->sheets);
     for (int call = 0; call < CALLS; call++)
         printf("%s %s %lu", call == 0 ? "" : ",", call_names[call], tally->calls[call]);
-    for (uint32_t fault = 1; fault < FAULTS; fault++)
-        if (tally_knows(PLACE, fault))
-            printf("%s %u %lu", fault == 1 ? "; faults of place" : ",", fault, tally->faults[PLACE][fault]);
+    print_faults(tally, PLACE);
+    print_faults(tally, MEND);
+    print_reasons(tally);
     for (int rule = 0; rule < RULES; rule++)
         printf("%s rule %d %lu", rule == 0 ? "; broken alone" : ",", rule + 1, tally->rule_alone[rule]);
     for (int way = 0; way < WAYS; way++)
@@ -121,6 +151,10 @@ int tally_shows_enough(const struct tally *tally, unsigned long least)
     }
     for (unsigned rule = 0; rule < RULES; rule++)
         all &= enough(tally->rule_alone[rule], least, "rule %u broken alone", rule + 1);
+    for (int reason = 0; reason < REASONS; reason++) {
+        all &= enough(tally->reasons[reason], least, "pairs with reason %d", reason);
+        all &= enough(tally->reason_alone[reason], least, "reason %d alone", reason);
+    }
     for (int way = 0; way < WAYS; way++)
         all &= enough(tally->ways[way], way == ABOVE_LIMIT || way == CUT_TO_ENOUGH ? 1 : least, "%s", way_names[way]);
     return all;

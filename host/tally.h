@@ -6,7 +6,7 @@
 
 #include "flow.h"
 
-enum call { JUDGE, FAULT, PLAN, PLACE, CHECK_FLOW, LISTING, CALLS };
+enum call { JUDGE, FAULT, PLAN, PLACE, CHECK_FLOW, LISTING, MEND, CALLS };
 
 // Ways in which calls, sheets and answers differ; each has to occur.
 enum way {
@@ -33,16 +33,31 @@ enum way {
     WRONG_PLACE_SHORT_ROW, // a wrong place and a short row at once
     FLOW_SHORT_ALONE,
     MARKS_SHORT_ALONE,
+    CLEAN_SHORT_ALONE,
+    REASONS_SHORT_ALONE,
+    CLEAN_ROW_BETWEEN, // long enough for the clean sheet and too short for the one given
+    CYCLE_SHORT_ROW,   // a cycle of the pairs kept and a short row at once
+    CYCLE_AND_DROPPED, // such a cycle, and pairs that are dropped
+    EVERY_REASON,      // all in one sheet
+    ALL_DROPPED,       // no pair is kept
+    MOST_PAIRS,        // as many pairs as there may be, and some are dropped
+    STRUCK_SELF,       // a pair of one number that no event has
+    STRUCK_AGAIN,      // a pair that names no event, given again
+    SELF_AGAIN,        // a pair of an event with itself, given again
+    REPEAT_APART,      // a repeat that doesn't follow the same pair
+    MENDED_AGAIN,      // what was handed back, without some pairs
     WAYS
 };
 
-enum { FAULTS = 16 }; // fault numbers are below this
+enum { FAULTS = 16, REASONS = 4 }; // fault numbers are below this, and so are reasons, 0 for a pair that is kept
 
 struct tally {
     unsigned long sheets, calls[CALLS], faults[CALLS][FAULTS], ways[WAYS];
     unsigned long later_item[FAULTS];                      // faults whose item isn't 0
     unsigned long late[PLAN_ENTRIES], early[PLAN_ENTRIES]; // faults 14 and 15, by the first wrong entry
     unsigned long rule_alone[RULES];                       // flows that break this rule and no other
+    unsigned long reasons[REASONS];                        // pairs
+    unsigned long reason_alone[REASONS];                   // sheets of which pairs are dropped for this reason and no other; at 0, none is
 };
 
 // Whether this call may have this fault, 0 for none.

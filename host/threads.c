@@ -8,16 +8,16 @@
 #include "make.h"
 #include "reedanchor.h"
 
-enum { THREADS = 4, SHEETS = 16, PLACES = 4 };
+enum { THREADS = 4, SHEETS = 16, PLACES = 4, CALLS = 7 };
 
 // All that the calls say of a sheet and one of its places. What they leave alone is 0.
 struct answers {
-    uint32_t judge, fault, plan, place, check_flow, listing;
-    uint32_t item[4], total, short_places, first, valid;
+    uint32_t judge, fault, plan, place, check_flow, listing, mend;
+    uint32_t item[5], total, short_places, first, valid;
     int32_t spare;
-    size_t written;
+    size_t written[2];
     uint32_t missing[REEDANCHOR_ROW_LENGTH], flow[REEDANCHOR_FLOW_LENGTH];
-    uint8_t marks[REEDANCHOR_MARKS_LENGTH], text[REEDANCHOR_TEXT_LENGTH];
+    uint8_t marks[REEDANCHOR_MARKS_LENGTH], text[REEDANCHOR_TEXT_LENGTH], clean[REEDANCHOR_CLEAN_LENGTH], reasons[REEDANCHOR_REASONS_LENGTH];
 };
 
 static struct bytes sheets[SHEETS];
@@ -33,7 +33,9 @@ static void ask(const struct bytes *sheet, size_t place, struct answers *a)
     a->place = reedanchor_place(sheet->at, sheet->length, place, a->flow, REEDANCHOR_FLOW_LENGTH, a->marks, REEDANCHOR_MARKS_LENGTH, &a->item[2],
                                 &a->spare);
     a->check_flow = reedanchor_check_flow(sheet->at, sheet->length, place, a->flow, REEDANCHOR_FLOW_LENGTH, &a->item[3], &a->valid);
-    a->listing = reedanchor_listing(sheet->at, sheet->length, a->text, REEDANCHOR_TEXT_LENGTH, &a->written);
+    a->listing = reedanchor_listing(sheet->at, sheet->length, a->text, REEDANCHOR_TEXT_LENGTH, &a->written[0]);
+    a->mend = reedanchor_mend(sheet->at, sheet->length, a->clean, REEDANCHOR_CLEAN_LENGTH, a->reasons, REEDANCHOR_REASONS_LENGTH, &a->item[4],
+                              &a->written[1]);
 }
 
 // Asks all there is to ask, starting at another place in each thread. Returns null if all answers are those of one thread alone.
@@ -64,6 +66,8 @@ static void make_sheets(void)
             make_short(&sheets[i], &r);
         if (i % 4 == 1)
             make_damage(&sheets[i], &r);
+        if (i % 4 == 2)
+            make_export(&sheets[i], &r);
         for (size_t place = 0; place < PLACES; place++)
             ask(&sheets[i], place, &alone[i][place]);
     }
@@ -94,6 +98,6 @@ int main(void)
         fprintf(stderr, "threads: a call says something else beside calls in other threads\n");
         return 1;
     }
-    printf("%d calls in %d threads at once say what one thread's say\n", THREADS * SHEETS * PLACES * 6, THREADS);
+    printf("%d calls in %d threads at once say what one thread's say\n", THREADS * SHEETS * PLACES * CALLS, THREADS);
     return 0;
 }

@@ -17,6 +17,8 @@ void trial_open(struct trial *trial, struct random *r, struct tally *tally)
     row_open(&trial->flow, sizeof(uint32_t), REEDANCHOR_FLOW_LENGTH, READ_AND_WRITE);
     row_open(&trial->marks, sizeof(uint8_t), REEDANCHOR_MARKS_LENGTH, READ_AND_WRITE);
     row_open(&trial->text, sizeof(uint8_t), REEDANCHOR_TEXT_LENGTH, READ_AND_WRITE);
+    row_open(&trial->clean, sizeof(uint8_t), REEDANCHOR_CLEAN_LENGTH, READ_AND_WRITE);
+    row_open(&trial->reasons, sizeof(uint8_t), REEDANCHOR_REASONS_LENGTH, READ_AND_WRITE);
     row_open(&trial->given, sizeof(uint32_t), REEDANCHOR_FLOW_LENGTH, READ_ONLY);
 }
 
@@ -72,14 +74,21 @@ static void count_sheet(struct tally *tally, const struct bytes *sheet, const st
     tally->ways[SHORT_TWICE] += due->short_places > 1;
 }
 
+static void stop_unless_known(const struct trial *trial, enum call call, uint32_t fault)
+{
+    if (tally_knows(call, fault))
+        return;
+    fprintf(stderr, "compare: the independent judge says %u, which is no fault of reedanchor_%s, of the sheet:\n", fault, call_names[call]);
+    stop_at(trial->sheet);
+}
+
 void trial_start(struct trial *trial, const struct bytes *sheet)
 {
     trial->sheet = sheet;
     due_of(&trial->due, sheet->at, sheet->length);
-    if (!tally_knows(FAULT, trial->due.fault)) {
-        fprintf(stderr, "compare: the independent judge says %u, which is no fault, of the sheet:\n", trial->due.fault);
-        stop_at(sheet);
-    }
+    stop_unless_known(trial, FAULT, trial->due.fault);
+    due_mend_of(&trial->mend, &trial->due, sheet->at, sheet->length);
+    stop_unless_known(trial, MEND, trial->mend.fault);
     walk(trial);
     count_sheet(trial->tally, sheet, &trial->due);
 }
@@ -98,9 +107,9 @@ const uint8_t *trial_lend(struct trial *trial, enum call call)
     return guarded_put(&trial->memory, trial->side, trial->sheet->at, trial->lent);
 }
 
-size_t trial_needs(const struct trial *trial, size_t entries)
+size_t trial_needs(const struct trial *trial, int known, size_t entries)
 {
-    return trial->due.fault == 0 ? entries : random_below(trial->r, 16);
+    return known ? entries : random_below(trial->r, 16);
 }
 
 int trial_lend_row(struct trial *trial, int which, struct row *row, size_t needed, int enough)

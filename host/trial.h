@@ -2,7 +2,7 @@
 #ifndef TRIAL_H
 #define TRIAL_H
 
-#include "due.h"
+#include "due_mend.h"
 #include "make.h"
 #include "row.h"
 #include "tally.h"
@@ -10,6 +10,7 @@
 struct trial {
     const struct bytes *sheet;
     struct due due;
+    struct due_mend mend;
     struct random *r;
     struct tally *tally;
 
@@ -19,8 +20,8 @@ struct trial {
     size_t lent, place, lengths[2]; // bytes of the sheet; entries of the rows
 
     struct guarded memory;
-    struct row missing, flow, marks, text; // rows that calls write
-    struct row given;                      // a flow that can only be read
+    struct row missing, flow, marks, text, clean, reasons; // rows that calls write
+    struct row given;                                      // a flow that can only be read
 };
 
 // A number behind a pointer of its own, full of junk before the call, and with junk on both sides.
@@ -37,8 +38,8 @@ void trial_start(struct trial *trial, const struct bytes *sheet);
 // they are at a null pointer half of the time.
 const uint8_t *trial_lend(struct trial *trial, enum call call);
 
-// How many entries of a row are needed, by what is due of a faultless sheet; any few if it is faulty, where that doesn't matter.
-size_t trial_needs(const struct trial *trial, size_t entries);
+// How many entries of a row are needed where that is known; else any few, since such a sheet is refused however long the row is.
+size_t trial_needs(const struct trial *trial, int known, size_t entries);
 
 // Lends the call's first or second row, of which so many entries are needed: long enough or too short. Returns whether it is too short,
 // which it can't be where none are needed.

@@ -40,7 +40,7 @@ void try_plan(struct trial *trial, int enough)
     struct number item = number_of_junk(trial->r), total = number_of_junk(trial->r), short_places = number_of_junk(trial->r),
                   first = number_of_junk(trial->r);
     const uint8_t *sheet = trial_lend(trial, PLAN);
-    int too_short = trial_lend_row(trial, 0, &trial->missing, trial_needs(trial, due->plan.places), enough);
+    int too_short = trial_lend_row(trial, 0, &trial->missing, trial_needs(trial, due->fault == 0, due->plan.places), enough);
     uint32_t fault = due->fault != 0 ? due->fault : too_short ? REEDANCHOR_SHORT_ROW : 0;
 
     trial_end(trial,

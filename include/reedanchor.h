@@ -8,7 +8,8 @@
  *
  * Sheets      Any bytes may be given, of any length. They are only read. A call that is given the first 21,281 bytes of a longer sheet says
  *             the same as one that is given all of it.
- * Faults      A call returns 0, or the number of its fault: the first of the list below that applies. A refused call changes no row.
+ * Faults      A call returns 0, or the number of its fault: the first of the list below that applies, of those that the call looks for (mending
+ *             drops the pairs of 8 to 10). A refused call changes no row.
  * Rows        A row is lent as a pointer and a length in entries. Entries beyond those needed are neither read nor changed, so a row may be
  *             longer than needed, and one of the greatest length given below does for every sheet.
  * Numbers     A number behind a pointer of its own is a result. It is written at every return, whatever stood there, and is 0 where the
@@ -46,6 +47,8 @@ extern "C" {
 #define REEDANCHOR_FLOW_LENGTH (REEDANCHOR_MOST_PAIRS + REEDANCHOR_MOST_EVENTS)
 #define REEDANCHOR_MARKS_LENGTH REEDANCHOR_MOST_EVENTS
 #define REEDANCHOR_TEXT_LENGTH 7216
+#define REEDANCHOR_CLEAN_LENGTH REEDANCHOR_MOST_BYTES
+#define REEDANCHOR_REASONS_LENGTH REEDANCHOR_MOST_PAIRS
 
 /* The table of contents that a sheet begins with, in bytes; its entries; and the item count that one of them tells. */
 #define REEDANCHOR_TABLE_BYTES 32
@@ -64,6 +67,7 @@ extern "C" {
 #define REEDANCHOR_STACK_PLACE (1024 * 1024)
 #define REEDANCHOR_STACK_CHECK_FLOW (32 * 1024)
 #define REEDANCHOR_STACK_LISTING (384 * 1024)
+#define REEDANCHOR_STACK_MEND (16 * 1024)
 
 enum {
     /* No fault. From reedanchor_judge it says that the plan runs: nothing is missing at any place. */
@@ -84,7 +88,7 @@ enum {
     REEDANCHOR_REPEATED_PAIR = 10, /* a pair given twice; the first pair that repeats an earlier one */
     REEDANCHOR_CYCLE = 11,         /* the order has a cycle */
 
-    /* Faults of a call on a sheet that has none. */
+    /* Faults of a call, looked for after those of the sheet. */
     REEDANCHOR_NO_PLACE = 12,  /* the place number isn't in the net */
     REEDANCHOR_SHORT_ROW = 13, /* a lent row is too short */
 
@@ -145,6 +149,27 @@ uint32_t reedanchor_check_flow(const uint8_t *sheet, size_t length, size_t place
  * *written  the listing's length
  */
 uint32_t reedanchor_listing(const uint8_t *sheet, size_t length, uint8_t *text, size_t text_length, size_t *written);
+
+/* Why a pair was dropped: the first of these that applies. */
+enum {
+    REEDANCHOR_KEPT = 0,
+    REEDANCHOR_NAMES_NO_EVENT = 1,
+    REEDANCHOR_OF_ONE_EVENT = 2, /* a pair of an event with itself */
+    REEDANCHOR_REPEATS = 3       /* it repeats an earlier pair, which is kept */
+};
+
+/*
+ * Mending a sheet: pairs that name no event, pairs of an event with itself and repeats are dropped, and all else is kept in its order. The clean
+ * sheet has no fault, and mending it again changes nothing.
+ *
+ * Its faults are those of a sheet up to REEDANCHOR_NO_TRANSITION, then REEDANCHOR_CYCLE on the pairs that are kept, then REEDANCHOR_SHORT_ROW.
+ *
+ * clean     needs as many bytes as the sheet given, REEDANCHOR_CLEAN_LENGTH at most, and gets the clean sheet
+ * reasons   needs a byte for each given pair, and gets REEDANCHOR_KEPT or why the pair was dropped
+ * *written  the clean sheet's length
+ */
+uint32_t reedanchor_mend(const uint8_t *sheet, size_t length, uint8_t *clean, size_t clean_length, uint8_t *reasons, size_t reasons_length,
+                         uint32_t *item, size_t *written);
 
 #ifdef __cplusplus
 }

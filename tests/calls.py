@@ -116,6 +116,11 @@ def listing(sheet, text):
     return Returned(Fault(number), tuple(singles), rows)
 
 
+def mend(sheet, clean, reasons):
+    """The single number: written."""
+    return make_with_item("reedanchor_mend", sheet, [(ctypes.c_uint8, clean), (ctypes.c_uint8, reasons)], [ctypes.c_size_t])
+
+
 def expect(what, found, due):
     """Ends the test where something else is found than is due."""
     if found != due:

@@ -1,5 +1,15 @@
 """Plans for the tests: document 01's examples with their expected answers, plans at the limits, and random ones."""
+import os
+
 from separate import Plan
+
+ROOT = os.path.dirname(os.path.dirname(os.path.abspath(__file__)))
+
+
+def example(name):
+    """A sheet of examples/."""
+    with open(os.path.join(ROOT, "examples", name + ".sheet"), "rb") as file:
+        return file.read()
 
 
 def one_place(opening, events, pairs):
@@ -77,6 +87,7 @@ short 0 total 0
 runs
 """,
     "cycle": "refused 11\n",
+    "old_export": "refused 8\n",
 }
 
 
@@ -199,3 +210,38 @@ def random_plan(draw, most_events=8, most_places=4):
         far = draw.randrange(3, draw.choice((10, 1000, 1000000)))
         plan.opening[p] = min(1000000, max(0, plan.by_least_cut(p)[0] + draw.choice((-3, -2, -1, -1, 0, 0, 0, 1, 2, far, -far))))
     return plan
+
+
+# ways to put an item at fault; a plan without such an item is left alone
+
+
+def over_opening(draw, plan):
+    plan.opening[draw.randrange(plan.places)] = 1000001
+
+
+def over_weight(draw, plan):
+    draw.choice(draw.choice(plan.transitions))[draw.randrange(plan.places)] = 1001
+
+
+def no_transition(draw, plan):
+    if plan.labels:
+        plan.labels[draw.randrange(plan.events)] = len(plan.transitions)
+
+
+def add_pair(draw, plan, pair):
+    plan.pairs.insert(draw.randrange(len(plan.pairs) + 1), pair)
+
+
+def no_event(draw, plan):
+    other = draw.randrange(plan.events + 1)
+    add_pair(draw, plan, draw.choice(((plan.events, other), (other, plan.events))))
+
+
+def self_pair(draw, plan):
+    if plan.events:
+        add_pair(draw, plan, 2 * (draw.randrange(plan.events),))
+
+
+def repeat(draw, plan):
+    if plan.pairs:
+        add_pair(draw, plan, draw.choice(plan.pairs))

@@ -1,5 +1,5 @@
-"""A judge of sheets that shares nothing with the code under test: the definitions of document 01, the faults with document 02's A2, the
-spare count of its A3 and the free count of its A6, read off literally.
+"""A judge and a mender of sheets that share nothing with the code under test: the definitions of document 01, the mending of document 02's A1, the
+faults with its A2, the spare count of its A3 and the free count of its A6, read off literally.
 
 It walks all done sets of a plan, so it is for plans of a few events. `by_greatest_flow` is a second way to a place's spare and missing
 counts and smallest done set, for plans of any size; tests/random_plans holds the two against each other. What it finds of a larger plan
@@ -47,8 +47,16 @@ def has_cycle(events, pairs):
         order = {(a, b) for a, b in order if a in left}
 
 
-def fault(sheet):
-    """The first that applies of 1, 2, 14 or 15, and 4 to 11, in this order. The item of 5 to 10 is the first one at fault."""
+def first_at_fault(kinds):
+    """The first fault of which something is true, as its number and the number of that item; `kinds` has a row of truth values for each."""
+    for number, at_fault in kinds:
+        if True in at_fault:
+            return Fault(number, at_fault.index(True))
+    return NO_FAULT
+
+
+def fault_before_pairs(sheet):
+    """The first that applies of 1, 2, 14 or 15, and 4 to 7, in this order. The item of 5 to 7 is the first one at fault."""
     if len(sheet) < 32:
         return Fault(1)
     words = struct.unpack_from("<8I", sheet)
@@ -66,22 +74,59 @@ def fault(sheet):
     opening = struct.unpack_from("<%dI" % places, sheet, starts[0])
     weights = struct.unpack_from("<%dH" % (2 * places * transitions), sheet, starts[1])
     labels = struct.unpack_from("<%dH" % events, sheet, starts[2])
-    ends = list(struct.iter_unpack("<2H", sheet[starts[3]:]))
-    for number, at_fault in (
+    return first_at_fault((
         (5, [count > 1000000 for count in opening]),
         (6, [any(weight > 1000 for weight in weights[2 * places * t:2 * places * (t + 1)]) for t in range(transitions)]),
         (7, [label >= transitions for label in labels]),
-        (8, [a >= events or b >= events for a, b in ends]),
-        (9, [a == b for a, b in ends]),
-        (10, [pair in ends[:i] for i, pair in enumerate(ends)]),
-    ):
-        if True in at_fault:
-            return Fault(number, at_fault.index(True))
-    return Fault(11) if has_cycle(events, ends) else NO_FAULT
+    ))
+
+
+def fault(sheet):
+    """That, then the first of 8 to 11. The item of 8 to 10 is the first pair at fault."""
+    found = fault_before_pairs(sheet)
+    if found != NO_FAULT:
+        return found
+    plan = read(sheet)
+    found = first_at_fault((
+        (8, [a >= plan.events or b >= plan.events for a, b in plan.pairs]),
+        (9, [a == b for a, b in plan.pairs]),
+        (10, [pair in plan.pairs[:i] for i, pair in enumerate(plan.pairs)]),
+    ))
+    return Fault(11) if found == NO_FAULT and has_cycle(plan.events, plan.pairs) else found
+
+
+class Mended(NamedTuple):
+    """Of a sheet that can be mended: why each given pair is dropped, 0 for one that is kept, and the clean sheet. None of a refused one."""
+    fault: Fault
+    reasons: Optional[list] = None
+    clean: Optional[bytes] = None
+
+
+def reason(events, pairs, i):
+    """Why pair i is dropped: 1 it names no event, 2 it is of an event with itself, 3 it repeats an earlier one; 0 if it is kept."""
+    a, b = pairs[i]
+    if a >= events or b >= events:
+        return 1
+    if a == b:
+        return 2
+    return 3 if (a, b) in pairs[:i] else 0
+
+
+def mend(sheet):
+    """The rules of document 02's A1, but for the rows that are lent."""
+    found = fault_before_pairs(sheet)
+    if found != NO_FAULT:
+        return Mended(found)
+    plan = read(sheet)
+    reasons = [reason(plan.events, plan.pairs, i) for i in range(len(plan.pairs))]
+    kept = [pair for pair, why in zip(plan.pairs, reasons) if why == 0]
+    if has_cycle(plan.events, kept):
+        return Mended(Fault(11))
+    return Mended(NO_FAULT, reasons, Plan(plan.opening, plan.transitions, plan.labels, kept).sheet())
 
 
 def read(sheet):
-    """The plan of a faultless sheet."""
+    """The plan of a sheet that has none of the faults before those of pairs."""
     places, transitions, events, pairs = struct.unpack_from("<8I", sheet)[1::2]
     numbers = struct.unpack_from("<%dI%dH" % (places, 2 * places * transitions + events + 2 * pairs), sheet, 32)
     opening, rest = numbers[:places], numbers[places:]

@@ -2,6 +2,7 @@
 #define _GNU_SOURCE
 #include "independent.h"
 #include "reedanchor.h"
+#include "words.h"
 
 #include <stdlib.h>
 #include <string.h>
@@ -17,6 +18,7 @@ uint32_t REAL(reedanchor_plan)(const uint8_t *, size_t, uint32_t *, size_t, uint
 uint32_t REAL(reedanchor_place)(const uint8_t *, size_t, size_t, uint32_t *, size_t, uint8_t *, size_t, uint32_t *, int32_t *);
 uint32_t REAL(reedanchor_check_flow)(const uint8_t *, size_t, size_t, const uint32_t *, size_t, uint32_t *, uint32_t *);
 uint32_t REAL(reedanchor_listing)(const uint8_t *, size_t, uint8_t *, size_t, size_t *);
+uint32_t REAL(reedanchor_mend)(const uint8_t *, size_t, uint8_t *, size_t, uint8_t *, size_t, uint32_t *, size_t *);
 uint32_t REAL(plan_read)(const uint8_t *, size_t, struct plan *);
 uint32_t REAL(independent_least)(const struct plan *, unsigned, uint8_t *);
 
@@ -34,7 +36,7 @@ static void touch(const volatile uint8_t *at)
 
 static void use_all_the_stack(void)
 {
-    volatile uint8_t all[REEDANCHOR_STACK_FAULT];
+    volatile uint8_t all[REEDANCHOR_STACK_FAULT > REEDANCHOR_STACK_MEND ? REEDANCHOR_STACK_FAULT : REEDANCHOR_STACK_MEND];
 
     all[0] = 0;
     touch(all);
@@ -222,6 +224,201 @@ uint32_t WRAP(reedanchor_listing)(const uint8_t *sheet, size_t length, uint8_t *
     if (spoils("listing: the sheet's fault") && length < REEDANCHOR_TABLE_BYTES)
         return REEDANCHOR_NO_TABLE;
     return answer;
+}
+
+enum { PAIR = 4 }; /* bytes */
+
+/* Whether the same pair stands from one position up to another. */
+static int stands_between(const uint8_t *pairs, size_t pair, size_t from, size_t to)
+{
+    for (size_t i = from; i < to; i++)
+        if (get32(pairs + PAIR * i) == get32(pairs + PAIR * pair))
+            return 1;
+    return 0;
+}
+
+/* What is wrong in the reason of one pair. */
+static uint8_t spoiled_reason(const uint8_t *pairs, size_t count, size_t i, uint8_t reason, size_t events)
+{
+    unsigned earlier = get16(pairs + PAIR * i), later = get16(pairs + PAIR * i + 2);
+
+    if (spoils("mend: the last of repeats") && (reason == REEDANCHOR_KEPT || reason == REEDANCHOR_REPEATS))
+        return stands_between(pairs, i, i + 1, count) ? REEDANCHOR_REPEATS : REEDANCHOR_KEPT;
+    if (spoils("mend: repeats in a row alone") && reason == REEDANCHOR_REPEATS && !stands_between(pairs, i, i - 1, i))
+        return REEDANCHOR_KEPT;
+    if (spoils("mend: 2 for a self-pair of no event") && earlier == later && reason == REEDANCHOR_NAMES_NO_EVENT)
+        return REEDANCHOR_OF_ONE_EVENT;
+    if (spoils("mend: 3 for a self-pair given again") && reason == REEDANCHOR_OF_ONE_EVENT && stands_between(pairs, i, 0, i))
+        return REEDANCHOR_REPEATS;
+    if (spoils("mend: 3 for a pair of no event given again") && reason == REEDANCHOR_NAMES_NO_EVENT && stands_between(pairs, i, 0, i))
+        return REEDANCHOR_REPEATS;
+    if (spoils("mend: the later event unread") && earlier < events && later >= events)
+        return REEDANCHOR_KEPT;
+    if (spoils("mend: events of 8 bits") && reason == REEDANCHOR_NAMES_NO_EVENT && (uint8_t)earlier < events && (uint8_t)later < events)
+        return REEDANCHOR_KEPT;
+    return reason;
+}
+
+/* Writes the clean sheet that these reasons make. */
+static void write_kept(const uint8_t *sheet, size_t length, uint8_t *clean, const uint8_t *reasons, size_t *written)
+{
+    size_t count = REEDANCHOR_COUNT(sheet, REEDANCHOR_PAIRS), start = length - PAIR * count;
+
+    *written = start;
+    for (size_t i = 0; i < count; i++)
+        if (reasons[i] == REEDANCHOR_KEPT) {
+            memcpy(clean + *written, sheet + start + PAIR * i, PAIR);
+            *written += PAIR;
+        }
+    set32(clean + 8 * REEDANCHOR_PAIRS + 4, (uint32_t)((*written - start) / PAIR));
+}
+
+/* What is wrong in which pairs are kept. */
+static void spoil_kept(const uint8_t *sheet, size_t length, uint8_t *clean, uint8_t *reasons, size_t *written)
+{
+    uint8_t right[REEDANCHOR_REASONS_LENGTH], kept[REEDANCHOR_REASONS_LENGTH];
+    size_t count = REEDANCHOR_COUNT(sheet, REEDANCHOR_PAIRS), events = REEDANCHOR_COUNT(sheet, REEDANCHOR_EVENTS);
+
+    for (size_t i = 0; i < count; i++) {
+        right[i] = reasons[i];
+        kept[i] = reasons[i] = spoiled_reason(sheet + length - PAIR * count, count, i, reasons[i], events);
+    }
+    if (spoils("mend: the pair after a dropped one dropped"))
+        for (size_t i = 1; i < count; i++)
+            kept[i] = reasons[i - 1] != REEDANCHOR_KEPT ? reasons[i - 1] : reasons[i];
+    if (spoils("mend: dropped pairs kept"))
+        memset(kept, REEDANCHOR_KEPT, count);
+    if (memcmp(kept, right, count) != 0)
+        write_kept(sheet, length, clean, kept, written);
+}
+
+/* What is wrong in the rows where a sheet is mended. */
+static void spoil_mended(const uint8_t *sheet, size_t length, uint8_t *clean, size_t clean_length, uint8_t *reasons, size_t reasons_length,
+                         size_t *written)
+{
+    size_t count = REEDANCHOR_COUNT(sheet, REEDANCHOR_PAIRS), start = length - PAIR * count;
+
+    spoil_kept(sheet, length, clean, reasons, written);
+    if (spoils("mend: the pair count as given"))
+        memcpy(clean + 8 * REEDANCHOR_PAIRS + 4, sheet + 8 * REEDANCHOR_PAIRS + 4, 4);
+    if (spoils("mend: another body") && start > REEDANCHOR_TABLE_BYTES)
+        clean[start - 1] ^= 1;
+    if (spoils("mend: the first kept pair last") && *written > start) {
+        uint32_t first = get32(clean + start);
+        memmove(clean + start, clean + start + PAIR, *written - start - PAIR);
+        set32(clean + *written - PAIR, first);
+    }
+    if (spoils("mend: a byte beyond") && clean_length > *written)
+        clean[*written]++;
+    if (spoils("mend: a reason beyond") && reasons_length > count)
+        reasons[count]++;
+    if (spoils("mend: a reason in other threads") && gettid() != getpid() && count > 0)
+        reasons[0]++;
+}
+
+/* What is wrong in the rows where the call is refused. */
+static void spoil_refused(uint32_t answer, uint8_t *clean, size_t clean_length, uint8_t *reasons, size_t reasons_length)
+{
+    if (spoils("mend: clean changed at 13") && answer == REEDANCHOR_SHORT_ROW && clean_length > 0)
+        clean[clean_length - 1]++;
+    if (spoils("mend: reasons changed at 13") && answer == REEDANCHOR_SHORT_ROW && reasons_length > 0)
+        reasons[0]++;
+    if (spoils("mend: clean changed at 11") && answer == REEDANCHOR_CYCLE && clean_length > 0)
+        clean[0]++;
+    if (spoils("mend: reasons changed at 11") && answer == REEDANCHOR_CYCLE && reasons_length > 0)
+        reasons[reasons_length - 1]++;
+}
+
+/* Whether the pairs that name no event have one the other way round. */
+static int has_struck_cycle(const uint8_t *pairs, size_t count, const uint8_t *reasons)
+{
+    for (size_t i = 0; i < count; i++)
+        for (size_t j = 0; j < i; j++)
+            if (reasons[i] == REEDANCHOR_NAMES_NO_EVENT && get16(pairs + PAIR * i) == get16(pairs + PAIR * j + 2) &&
+                get16(pairs + PAIR * i + 2) == get16(pairs + PAIR * j) && get32(pairs + PAIR * i) != get32(pairs + PAIR * j))
+                return 1;
+    return 0;
+}
+
+/* Another fault in place of the right one. */
+static uint32_t spoiled_fault(uint32_t answer, const uint8_t *sheet, size_t length, const uint8_t *reasons, size_t row_length)
+{
+    size_t count = answer == 0 ? REEDANCHOR_COUNT(sheet, REEDANCHOR_PAIRS) : 0;
+    uint32_t item;
+
+    if (spoils("mend: a self-pair is a cycle") && count > 0 && memchr(reasons, REEDANCHOR_OF_ONE_EVENT, count) != NULL)
+        return REEDANCHOR_CYCLE;
+    if (spoils("mend: pairs of no event are a cycle") && has_struck_cycle(sheet + length - PAIR * count, count, reasons))
+        return REEDANCHOR_CYCLE;
+    if (spoils("mend: no cycle") && answer == REEDANCHOR_CYCLE)
+        return REEDANCHOR_RUNS;
+    if (spoils("mend: the sheet's fault") && answer == 0)
+        return REAL(reedanchor_fault)(sheet, length, &item);
+    if (spoils("mend: 13 before 11") && answer == REEDANCHOR_CYCLE && row_length == 0)
+        return REEDANCHOR_SHORT_ROW;
+    if (spoils("mend: 13 before the sheet's fault") && answer != 0 && answer != REEDANCHOR_CYCLE && row_length == 0)
+        return REEDANCHOR_SHORT_ROW;
+    return answer;
+}
+
+/* Mending where a clean row that is long enough for the clean sheet does. */
+static uint32_t mend_by_clean_length(const uint8_t *sheet, size_t length, uint8_t *clean, size_t clean_length, uint8_t *reasons,
+                                     size_t reasons_length, uint32_t *item, size_t *written)
+{
+    uint8_t row[REEDANCHOR_CLEAN_LENGTH], other[REEDANCHOR_REASONS_LENGTH];
+    uint32_t answer = REAL(reedanchor_mend)(sheet, length, row, sizeof row, other, reasons_length, item, written);
+
+    if (answer != 0 || *written > clean_length)
+        return REAL(reedanchor_mend)(sheet, length, clean, clean_length, reasons, reasons_length, item, written);
+    memcpy(clean, row, *written);
+    if (reasons_length > 0)
+        memcpy(reasons, other, REEDANCHOR_COUNT(sheet, REEDANCHOR_PAIRS));
+    return answer;
+}
+
+/* What is wrong in the two numbers. */
+static void spoil_numbers(uint32_t answer, size_t length, uint32_t kept_item, uint32_t *item, size_t kept, size_t *written)
+{
+    if ((spoils("mend: item unwritten") && answer == 0) || (spoils("mend: item unwritten at 13") && answer == REEDANCHOR_SHORT_ROW))
+        *item = kept_item;
+    if (spoils("mend: item of 64 bits"))
+        item[1] = 0;
+    if (spoils("mend: the next item") && answer >= REEDANCHOR_OVER_OPENING && answer <= REEDANCHOR_NO_TRANSITION)
+        ++*item;
+    if (spoils("mend: an item of 11") && answer == REEDANCHOR_CYCLE)
+        *item = 1;
+    if ((spoils("mend: length unwritten at 1") && answer == REEDANCHOR_NO_TABLE) ||
+        (spoils("mend: length unwritten at 11") && answer == REEDANCHOR_CYCLE) ||
+        (spoils("mend: length unwritten at 13") && answer == REEDANCHOR_SHORT_ROW))
+        *written = kept;
+    if (spoils("mend: length of 32 bits"))
+        *written = (kept & ~(size_t)UINT32_MAX) | *written;
+    if (spoils("mend: the length given") && answer == 0)
+        *written = length;
+}
+
+uint32_t WRAP(reedanchor_mend)(const uint8_t *sheet, size_t length, uint8_t *clean, size_t clean_length, uint8_t *reasons, size_t reasons_length,
+                               uint32_t *item, size_t *written)
+{
+    uint32_t kept_item = *item;
+    size_t kept = *written;
+    uint32_t answer = spoils("mend: 13 by the clean sheet's length")
+                          ? mend_by_clean_length(sheet, length, clean, clean_length, reasons, reasons_length, item, written)
+                          : REAL(reedanchor_mend)(sheet, length, clean, clean_length, reasons, reasons_length, item, written);
+
+    if (answer == 0)
+        spoil_mended(sheet, length, clean, clean_length, reasons, reasons_length, written);
+    spoil_refused(answer, clean, clean_length, reasons, reasons_length);
+    spoil_numbers(answer, length, kept_item, item, kept, written);
+    if (spoils("mend: read past the clean row") && clean_length > 0)
+        touch(clean + clean_length);
+    if (spoils("mend: read before the reasons") && reasons_length > 0)
+        touch(reasons - 1);
+    if (spoils("mend: write the sheet") && length > 0)
+        *(volatile uint8_t *)sheet = *sheet;
+    if (spoils("mend: more stack"))
+        use_all_the_stack();
+    return spoiled_fault(answer, sheet, length, reasons, reasons_length);
 }
 
 uint32_t WRAP(plan_read)(const uint8_t *sheet, size_t length, struct plan *plan)

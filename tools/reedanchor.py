@@ -53,12 +53,22 @@ Traceback (most recent call last):
     ..
 reedanchor.Fault: fault 10: a pair given twice (pair 1)
 
+Mending drops pairs of an old export that name no event, that are of an event with itself, or that repeat an earlier one:
+
+>>> pairs = struct.pack("<10H", 0, 1, 0, 7, 0, 1, 2, 2, 0, 2)
+>>> old = sheet[:28] + struct.pack("<I", 5) + sheet[32:62] + pairs
+>>> mended = reedanchor.mend(old)
+>>> mended.sheet == sheet, mended.reasons, mended.dropped
+(True, (0, 1, 3, 2, 0), (1, 2, 3))
+
 fault(sheet)                    The sheet's Fault, returned, or None. The other calls raise it.
 plan(sheet)                     Plan: how many tokens are missing at each place.
 place(sheet, place)             Place: how many tokens one place has to spare, and what shows it.
 check_flow(sheet, place, flow)  Whether a flow drawn up elsewhere is valid at a place. The flow has a number for each pair and then a share of the
                                 opening count for each event, from 0 to 4,294,967,295; further ones aren't looked at.
 listing(sheet)                  What is found of a sheet as text, of a faulty one too (`refused` and its fault's number), so it raises no Fault.
+mend(sheet)                     Mended: the clean sheet, and why each pair of the given one was dropped, by a number of REASONS, 0 for one that is kept.
+                                Raises faults 1, 2, 14, 15 and 4 to 7, and 11 where the pairs that are kept have a cycle.
 
 A sheet is any bytes-like object, of any length and content. It is neither changed nor kept. Besides Fault, a call raises TypeError or ValueError for
 arguments of a wrong type or range, and NotBuilt where the library can't be loaded. Calls may be made in several threads at once, and run beside each
@@ -72,7 +82,7 @@ import struct
 from typing import NamedTuple, Optional, Tuple
 
 # The lengths of rows that do for every sheet.
-ROW_LENGTH, FLOW_LENGTH, MARKS_LENGTH, TEXT_LENGTH = 64, 1024 + 256, 256, 7216
+ROW_LENGTH, FLOW_LENGTH, MARKS_LENGTH, TEXT_LENGTH, CLEAN_LENGTH, REASONS_LENGTH = 64, 1024 + 256, 256, 7216, 21280, 1024
 
 # By their numbers, the words of the faults and what their items are, in the order in which they are looked for.
 FAULTS = {
@@ -92,6 +102,13 @@ FAULTS = {
     13: ("a lent row is too short", None),
 }
 
+# By their numbers, why mending drops a pair: the first of these that applies.
+REASONS = {
+    1: "it names no event",
+    2: "it is of an event with itself",
+    3: "it repeats an earlier pair",
+}
+
 _SHEET, _NUMBER, _WORDS, _BYTES, _SIZE = (
     (ctypes.c_char_p, ctypes.c_size_t), ctypes.POINTER(ctypes.c_uint32), (ctypes.POINTER(ctypes.c_uint32), ctypes.c_size_t),
     (ctypes.POINTER(ctypes.c_uint8), ctypes.c_size_t), ctypes.c_size_t)
@@ -102,6 +119,7 @@ _CALLS = {
     "reedanchor_place": (*_SHEET, _SIZE, *_WORDS, *_BYTES, _NUMBER, ctypes.POINTER(ctypes.c_int32)),
     "reedanchor_check_flow": (*_SHEET, _SIZE, *_WORDS, _NUMBER, _NUMBER),
     "reedanchor_listing": (*_SHEET, *_BYTES, ctypes.POINTER(_SIZE)),
+    "reedanchor_mend": (*_SHEET, *_BYTES, *_BYTES, _NUMBER, ctypes.POINTER(_SIZE)),
 }
 
 
@@ -145,6 +163,17 @@ class Place(NamedTuple):
     @property
     def runs(self):
         return self.spare >= 0
+
+
+class Mended(NamedTuple):
+    """A clean sheet, and for each pair of the given one a number of REASONS, or 0 for a pair that is kept."""
+    sheet: bytes
+    reasons: Tuple[int, ...]
+
+    @property
+    def dropped(self):
+        """The numbers of the pairs that were dropped."""
+        return tuple(pair for pair, reason in enumerate(self.reasons) if reason)
 
 
 @functools.lru_cache(maxsize=None)
@@ -238,3 +267,11 @@ def listing(sheet):
     if number:
         raise Fault(number)
     return bytes(text[:written.value]).decode("ascii")
+
+
+def mend(sheet):
+    """The sheet without pairs that name no event, pairs of an event with itself and repeats: a Mended. Raises the sheet's Fault if it stands before 8, or
+    11 for a cycle among the pairs that are kept."""
+    sheet, clean, reasons, written = _copied(sheet), (ctypes.c_uint8 * CLEAN_LENGTH)(), (ctypes.c_uint8 * REASONS_LENGTH)(), ctypes.c_size_t()
+    _ask(library().reedanchor_mend, sheet, (clean, len(clean), reasons, len(reasons)), written)
+    return Mended(bytes(clean[:written.value]), tuple(reasons[:_counts(sheet)[3]]))

@@ -1,12 +1,14 @@
 -- What the till server's numbers say: 0 that the plan runs, 1,000 to 1,063 the first short place, and any other the sheet's fault, which is
--- never 13. And what the numbers of the plan judgement say that C gets.
+-- never 13. And what the numbers of the plan judgement and of the mending call say that C gets.
 use Prim.Native.Nat.{ℕ, _+_, _<_}
 use native.Mathlib.Nat.{eq-zero-or-pos}
 use native.Mathlib.Omega.{arith}
 use mathlib.Core.List.{List}
 use mathlib.Core.Logic.{_↔_, ⊎-elim}
+use mathlib.Core.Option.{some}
 use mathlib.Core.Path.{_≡_, sym, ap, subst, _∙_}
 use lib.Dec.{T}
+use lib.ListN.{length, take}
 use Rattle.plan.specs.Prefix.{runs}
 use Rattle.place.specs.Place.{missingAt}
 use Rattle.sheet.specs.Table.{placesOf}
@@ -19,7 +21,10 @@ use Rattle.summary.specs.Summary.{PlanValues, shortPlaces, firstShort, shortNum
 use Rattle.summary.specs.Laws.{FirstIn, verdict-fits, short-number, not-13, none-short, first-told, runs-number}
 use Rattle.plan_judgement.specs.Judgement.{planFault, planValues, planSays}
 use Rattle.plan_judgement.specs.Laws.{runs-told}
-use Rattle.answers.specs.ForC.{PlanTold, firstSaid, valueOr}
+use Rattle.mending.specs.Clean.{cleanOf}
+use Rattle.mending.specs.Mended.{mendFault, mendSays, cleanAfter}
+use Rattle.mending.specs.Theorems.{Mends, mended}
+use Rattle.answers.specs.ForC.{PlanTold, MendTold, firstSaid, valueOr}
 use Rattle.reedanchor.specs.Till.{numberSaid, tillAnswer, answersBelow}
 
 module _ (s : List ℕ) where
@@ -94,3 +99,12 @@ module _ (s row : List ℕ) (item total short first : ℕ) (told : PlanTold (pla
   pub first-place-told : 0 < short → FirstIn (missingAt s) (placesOf s) first
   first-place-told some-short =
       subst (FirstIn (missingAt s) (placesOf s)) (sym first-is) (first-told (missingAt s) (placesOf s) (omega (arith, short-is)))
+
+-- Where the mending call returns 0, the first bytes of the clean row, as many as it tells, are what mending makes of the sheet.
+pub mended-in-c : (s clean reasons : List ℕ) (item written : ℕ) → MendTold (mendSays s clean reasons) 0 item written → Mends s (take written (cleanAfter s clean reasons))
+unfolding mendSays
+mended-in-c s clean reasons item written told =
+    let clear = said-clear (mendFault s clean reasons) (length (cleanOf s)) (sym (told .faulty .0)) in
+    let says = said-answer (mendFault s clean reasons) (length (cleanOf s)) clear in
+    let all : written ≡ length (cleanOf s) = told .length ∙ ap (λ (said : Said ℕ). valueOr 0 (λ (n : ℕ). n) (said .values)) says in
+    mended s clean reasons written (ap (λ (said : Said ℕ). said .values) says ∙ ap some (sym all))

@@ -4,14 +4,16 @@ ghost use mathlib.Core.Path.{_≡_};
 ghost use Rattle.flowcheck.specs.Checked.{checkSays};
 ghost use Rattle.ids.specs.Lent.{was, is};
 ghost use Rattle.listed.specs.Listed.{listSays, rowAfter};
+ghost use Rattle.mending.specs.Mended.{mendSays, cleanAfter, reasonsAfter};
 ghost use Rattle.place_judgement.specs.Judgement.{judgementSays, Handed, marksAfter};
 ghost use Rattle.plan_judgement.specs.Judgement.{says, planSays, rowOf};
-ghost use Rattle.answers.specs.ForC.{atReturn, FaultTold, PlanTold, PlaceTold, CheckTold, ListingTold};
+ghost use Rattle.answers.specs.ForC.{atReturn, FaultTold, PlanTold, PlaceTold, CheckTold, ListingTold, MendTold};
 ghost use Rattle.reedanchor.specs.Till.{answersBelow, numberSaid, tillAnswer};
 ghost use Rattle.sheet.specs.Faults.{faultOf};
 use answers::tell_check;
 use answers::tell_fault;
 use answers::tell_listing;
+use answers::tell_mend;
 use answers::tell_place;
 use answers::tell_plan;
 use fault::fault_of;
@@ -19,6 +21,7 @@ use flowcheck::check_flow;
 use ids::PLACES;
 use ids::Place;
 use listed::write_listing;
+use mending::mend;
 use place_judgement::judge_place;
 use plan_judgement::Answer;
 use plan_judgement::judge_plan;
@@ -115,4 +118,21 @@ pub extern "C" fn reedanchor_listing(sheet: &[u8], text: &mut [u8], written: &mu
 {
     let l = write_listing(sheet, text);
     tell_listing(l, written)
+}
+
+// The mending call.
+#[no_mangle]
+pub extern "C" fn reedanchor_mend(
+    sheet: &[u8],
+    clean: &mut [u8],
+    reasons: &mut [u8],
+    item: &mut u32,
+    written: &mut usize,
+) -> u32
+    ensures { λ r. ⌜ MendTold (mendSays (was sheet) (was clean) (was reasons)) r (atReturn item) (atReturn written) ⌝ }
+    ensures { λ _. ⌜ is clean ≡ cleanAfter (was sheet) (was clean) (was reasons) ⌝ }
+    ensures { λ _. ⌜ is reasons ≡ reasonsAfter (was sheet) (was clean) (was reasons) ⌝ }
+{
+    let m = mend(sheet, clean, reasons);
+    tell_mend(m, item, written)
 }
