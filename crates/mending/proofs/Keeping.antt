@@ -33,7 +33,7 @@ module _ (s : List ℕ) (i r : ℕ) (is : r ≡ reasonAt s i) where
   dropped-text n =
       ap (λ (x : Bool). cond x (pairBytes (earlierAt s i) (laterAt s i)) []) (sym (ne-eqb (reasonAt s i) 0 (λ e. n (is ∙ e))))
 
-pub kept-order : (s : List ℕ) → each (pairsOf s) (keptBytes s) ≡ orderBytes (keptPlan s)
+kept-order : (s : List ℕ) → each (pairsOf s) (keptBytes s) ≡ orderBytes (keptPlan s)
 unfolding keptBytes orderBytes
 kept-order s = sym (each-chosen (pairsOf s) (kept s) (λ i. pairBytes (earlierAt s i) (laterAt s i)))
 

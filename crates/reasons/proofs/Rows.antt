@@ -105,7 +105,7 @@ module _ (s : List ℕ) where
           subst T (sym (ap₂ (isProper s i) (eqb→eq u (earlierAt s i) (ends .0)) (eqb→eq v (laterAt s i) (ends .1)) ∙ proper-repeats i (both .0))) (again (both .0))
 
   -- these are the pairs of the kept plan
-  pub kept-rows : (succ : List ℕ) → KeptRows s (pairsOf s) succ → PairRows (keptPlan s) (keptPlan s .pairs) succ
+  kept-rows : (succ : List ℕ) → KeptRows s (pairsOf s) succ → PairRows (keptPlan s) (keptPlan s .pairs) succ
   unfolding isPair isProper
   kept-rows succ g = record { marks = λ u v h. g .marks u v h ∙ sym (pairs u v) }
     where

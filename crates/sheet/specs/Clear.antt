@@ -106,7 +106,7 @@ module _ (s : List ℕ) (known : Faultless s) where
       let both = and-yes (eqb (earlierAt s i) (earlierAt s j)) (eqb (laterAt s i) (laterAt s j)) t in
       known .once i j m l (eqb→eq (earlierAt s i) (earlierAt s j) (both .0)) (eqb→eq (laterAt s i) (laterAt s j) (both .1)))))
 
-  pub no-faults : Absent faults s
+  no-faults : Absent faults s
   unfolding faults contentFaults pairFaults orderFaults noEvent selfPair repeated cyclic cycleAt
   no-faults =
       absent-both layoutFaults contentFaults s (layout-clear s (known .laid)) (absent-both (numberFaults ++ pairFaults) orderFaults s (absent-both numberFaults pairFaults s (numbers-clear s good-of) (

@@ -40,7 +40,7 @@ module _ (l : Layout) where
       )
 
 -- items of the same length, one number each
-pub numbers-length : (k n : ℕ) (f : ℕ → ℕ) → length (each n (λ i. bytes k (f i))) ≡ k * n
+numbers-length : (k n : ℕ) (f : ℕ → ℕ) → length (each n (λ i. bytes k (f i))) ≡ k * n
 numbers-length k n f = each-length k n (λ i. bytes k (f i)) (λ i l. bytes-length k (f i))
 
 pub pair-length : (a b : ℕ) → length (pairBytes a b) ≡ 4

@@ -88,10 +88,10 @@ module _ (s : List ℕ) where
       }
 
 -- the layout of what is written can be written
-pub layout-within : (N : Net) (P : Plan) → Writable N P → WithinLimits (layoutOf N P)
+layout-within : (N : Net) (P : Plan) → Writable N P → WithinLimits (layoutOf N P)
 layout-within N P fits = record { places = fits .places; transitions = fits .transitions; events = fits .events; pairs = fits .pairs }
 
-pub layout-fits : (N : Net) (P : Plan) → Writable N P → FourBytes (layoutOf N P)
+layout-fits : (N : Net) (P : Plan) → Writable N P → FourBytes (layoutOf N P)
 layout-fits N P fits =
     let most = weights-fit (N .places) (N .transitions) (fits .places) (fits .transitions) in
     record {
@@ -117,7 +117,7 @@ module _ (N : Net) (P : Plan) (fits : Writable N P) (s : List ℕ) (written : s 
   net-body : Stands s tableLength (openingBytes N ++ weightBytes N)
   net-body = stands-left s tableLength (openingBytes N ++ weightBytes N) (labelBytes P) body
 
-  pub laid-out : LayoutOf s (layoutOf N P)
+  laid-out : LayoutOf s (layoutOf N P)
   laid-out =
       table-says s (layoutOf N P) (layout-within N P fits) (layout-fits N P fits) (stands-left s 0 (table (layoutOf N P)) (bodyBytes N P) front)
 
@@ -125,7 +125,7 @@ module _ (N : Net) (P : Plan) (fits : Writable N P) (s : List ℕ) (written : s 
   size = ap length written ∙ sheet-length N P
 
   -- no fault of the layout
-  pub reads-laid : Laid s
+  reads-laid : Laid s
   reads-laid =
       let is = laid-out in
       let products = ap₂ (λ (a b : ℕ). 4 * a * b) (is .places) (is .transitions) in
@@ -201,7 +201,7 @@ module _ (N : Net) (P : Plan) (fits : Writable N P) (s : List ℕ) (written : s 
         h
 
   -- the net,
-  pub reads-net : SameNet (netOf s) N
+  reads-net : SameNet (netOf s) N
   reads-net =
       let is = laid-out in
       record {
@@ -224,7 +224,7 @@ module _ (N : Net) (P : Plan) (fits : Writable N P) (s : List ℕ) (written : s 
       ∙ numbers-read s 2 (eventsAt (layoutOf N P)) (P .events) (P .label) (fits .label) events-here v h
 
   -- the events,
-  pub reads-events : SameEvents (planOf s) P
+  reads-events : SameEvents (planOf s) P
   reads-events = record { events = sym (laid-out .events); labels = λ v h. reads-label v (omega (arith, laid-out .events)) }
 
   reads-pair : (i : ℕ) → i < P .pairs → (earlierAt s i ≡ P .earlier i) × (laterAt s i ≡ P .later i)
@@ -238,7 +238,7 @@ module _ (N : Net) (P : Plan) (fits : Writable N P) (s : List ℕ) (written : s 
       (ap (number 2 s) there ∙ both .0, ap (λ (n : ℕ). number 2 s (n + 2)) there ∙ both .1)
 
   -- and the pairs are those that were written.
-  pub reads-pairs : SamePairs (planOf s) P
+  reads-pairs : SamePairs (planOf s) P
   reads-pairs =
       let is = laid-out in
       record {

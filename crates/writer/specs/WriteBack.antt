@@ -21,7 +21,7 @@ use Rattle.writer.specs.Lengths.{body-length, front-length, sheet-length
 use Rattle.writer.specs.Written.{entry, table, openingBytes, transitionBytes, weightBytes, labelBytes, pairBytes, orderBytes, bodyBytes, bytesOf, layoutOf}
 
 -- The numbers from one position of s up to another are bytes.
-abbrev pub BytesWithin : List ℕ → ℕ → ℕ → Type 0
+abbrev BytesWithin : List ℕ → ℕ → ℕ → Type 0
 BytesWithin s from to = (i : ℕ) → from ≤ i → i < to → getD s i 0 < 256
 
 module _ (s : List ℕ) (from to : ℕ) (small : BytesWithin s from to) where
@@ -93,7 +93,7 @@ module _ (s : List ℕ) (known : Laid s) where
         ap (number 2 s) (item-at 2 v 2 refl))
 
     -- what stands between the table and the pairs
-    pub bodies-here : Stands s tableLength (bodyBytes (netOf s) (planOf s))
+    bodies-here : Stands s tableLength (bodyBytes (netOf s) (planOf s))
     unfolding bodyBytes weightBytes
     bodies-here =
         let weights = stands-each s (start s 1) (4 * placesOf s) (transitionBytes (netOf s)) (transitionsOf s) (λ t h. transition-length (netOf s) t) transition-here in
@@ -176,7 +176,7 @@ module _ (s : List ℕ) (known : Laid s) where
 
 -- What is written goes by the items.
 module _ (N M : Net) (P Q : Plan) (nets : SameNet N M) (events : SameEvents P Q) where
-  pub bodies-same : bodyBytes N P ≡ bodyBytes M Q
+  bodies-same : bodyBytes N P ≡ bodyBytes M Q
   unfolding bodyBytes openingBytes weightBytes transitionBytes labelBytes
   bodies-same =
       ap₂ _++_ (ap₂ _++_ opened weighed) (ap (λ (n : ℕ). each n (λ v. bytes 2 (P .label v))) (events .events) ∙ each-ext _ _ _ (λ v l. ap (bytes 2) (events .labels v (omega (arith, events .events)))))
