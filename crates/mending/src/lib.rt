@@ -1,5 +1,5 @@
-// Mending a sheet: the clean sheet and the reason of each given pair, in lent rows. The pairs are looked through in rows of the call's own, so that neither lent row
-// is written before every fault is looked for.
+// Mending a sheet: the clean sheet and the reason of each given pair, in lent rows. The pairs are looked through in rows of the call's own, so that no
+// lent row is written before every fault is looked for.
 mod clean;
 
 ghost use Prim.Native.Nat.{_≤_};
