@@ -9,19 +9,35 @@ use lib.Dec.{T, eqb, eqb→eq, ltb, ltb→lt, nltb→le}
 use mir.Facts.{yes-eqb}
 use Rattle.finite.specs.Bounded.{decide, same}
 use Rattle.finite.specs.Subset.{Set, insert}
-use Rattle.finite.specs.Sum.{on, sum, over, on-no, over-all, over-either, sum-ext, sum-one, sum-zero}
+use Rattle.finite.specs.Sum.{on, sum, over, on-yes, on-no, over-all, over-either, over-mono, sum-ext, sum-more, sum-one, sum-term, sum-zero}
 
 unfoldable pub count : ℕ → Set → ℕ
 count n S = over n S (λ v. 1)
 
-pub count-none : (n : ℕ) (S : Set) → ((v : ℕ) → T (S v) → ⊥) → count n S ≡ 0
+pub count-start : (S : Set) → count 0 S ≡ 0
+unfolding count over sum
+count-start S = refl
+
+pub count-more : (n : ℕ) (S : Set) → count (n + 1) S ≡ count n S + on (S n) 1
 unfolding count over
-count-none n S none = sum-zero n (λ v. on (S v) 1) (λ v l. on-no (S v) 1 (none v))
+count-more n S = sum-more n (λ v. on (S v) 1)
+
+pub count-none : (n : ℕ) (S : Set) → ((v : ℕ) → v < n → T (S v) → ⊥) → count n S ≡ 0
+unfolding count over
+count-none n S none = sum-zero n (λ v. on (S v) 1) (λ v l. on-no (S v) 1 (none v l))
+
+pub none-count : (n : ℕ) (S : Set) → count n S ≡ 0 → (v : ℕ) → v < n → T (S v) → ⊥
+unfolding count over
+none-count n S none v l t = omega (arith, none, sum-term n (λ v. on (S v) 1) v l, on-yes (S v) 1 t)
 
 pub ones : (n : ℕ) → sum n (λ v. 1) ≡ n
 unfolding sum
 ones zero = refl
 ones (suc n) = omega (arith, ones n)
+
+pub count-full : (n : ℕ) (S : Set) → ((v : ℕ) → v < n → T (S v)) → count n S ≡ n
+unfolding count over
+count-full n S full = sum-ext n _ _ (λ v l. on-yes (S v) 1 (full v l)) ∙ ones n
 
 pub count-le : (n : ℕ) (S : Set) → count n S ≤ n
 unfolding count
@@ -50,6 +66,10 @@ count-within (suc m) n S below =
     (λ l. omega (arith, count-le (suc m) S, ltb→lt m n l))
     (λ l. omega (arith, count-within m n S below, on-no (S m) 1 (λ t. omega (arith, below m t, nltb→le m n l))))
     (decide (ltb m n))
+
+pub count-mono : (n : ℕ) (S R : Set) → ((v : ℕ) → v < n → T (S v) → T (R v)) → count n S ≤ count n R
+unfolding count
+count-mono n S R h = over-mono n S R (λ v. 1) h
 
 pub count-ext : (n : ℕ) (S R : Set) → ((v : ℕ) → v < n → S v ≡ R v) → count n S ≡ count n R
 unfolding count over

@@ -4,7 +4,9 @@ pub mod Count
 pub mod Each
 pub mod Filled
 pub mod First
+pub mod Last
 pub mod Pairs
+pub mod Queue
 pub mod Row
 pub mod Search
 pub mod Stands

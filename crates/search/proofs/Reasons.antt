@@ -6,13 +6,13 @@ use mathlib.Core.Logic.{_⊎_, inl, inr, ⊎-elim}
 use mathlib.Core.Path.{_≡_, refl, sym, subst}
 use lib.Dec.{T, ltb, ltb→lt}
 use mir.Facts.{yes-ltb}
+use Rattle.finite.specs.Queue.{Stored, stored-below, below-next}
 use Rattle.marks.specs.Marks.{marked}
 use Rattle.search.specs.Row.{In, Empty}
 use Rattle.search.specs.Exhausted.{Narrow}
 use Rattle.search.specs.Trail.{_!_, Takers, Givers, takersOf, giversOf, FedBy, MetBy, Trail}
-use Rattle.search.specs.Steps.{Stored, Joined, Seeded}
+use Rattle.search.specs.Steps.{Joined, Seeded}
 use Rattle.search.proofs.Gain.{gain-cases, gain-keeps}
-use Rattle.search.proofs.Queue.{kept, below-next}
 
 -- a place keeps its reason where its entries stay
 fed-moved : {fed : List ℕ} {t s : Takers} {g h : Givers} {i : ℕ} → s .origin ! i ≡ t .origin ! i → s .queue ! i ≡ t .queue ! i
@@ -85,8 +85,8 @@ module _ {pred fed share : List ℕ} {n : ℕ} {t : Takers} {g : Givers} (r : Tr
       before : (i : ℕ) → i < t .tail → Reason i
       before i low =
           ⊎-elim
-          (λ h. inl (rw (kept (j .put) i low) h))
-          (λ f. inr (fed-moved {t = t} (kept p i low) (kept (j .put) i low) (λ h. (h, refl)) f))
+          (λ h. inl (rw (stored-below (j .put) i low) h))
+          (λ f. inr (fed-moved {t = t} (stored-below p i low) (stored-below (j .put) i low) (λ h. (h, refl)) f))
           (r .reason i low)
 
       here : Reason (t .tail)
@@ -94,7 +94,7 @@ module _ {pred fed share : List ℕ} {n : ℕ} {t : Takers} {g : Givers} (r : Tr
           inr (record { giver = rw (p .here) giver; feeds = rw (p .here, j .put .here) feeds; earlier = rw (p .here) early })
 
       met-still : (v : ℕ) → MetBy pred t g v → MetBy pred s g v
-      met-still v f = record { place = omega (arith, f .place); before = rw (kept (j .put) (g .via ! v) (f .place)) (f .before) }
+      met-still v f = record { place = omega (arith, f .place); before = rw (stored-below (j .put) (g .via ! v) (f .place)) (f .before) }
 
   -- the giver u is before the taker at `head`
   pub trail-giver : {head u : ℕ} {row via : List ℕ} → Narrow pred fed n → Joined (g .row) row u (g .via) via u head → (In (g .row) u → ⊥)

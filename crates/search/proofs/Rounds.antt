@@ -6,21 +6,22 @@ use mathlib.Core.List.{List}
 use mathlib.Core.Path.{_≡_, refl, sym, subst, _∙_}
 use lib.Dec.{T}
 use Rattle.finite.specs.Count.{count-within}
+use Rattle.finite.specs.Queue.{Stored, stored-below, below-next, queued-none}
 use Rattle.marks.specs.Marks.{marked}
 use Rattle.last_mark.specs.Found.{Only, none-only}
 use Rattle.search.specs.Row.{members, In, Empty, AllIn, in-marked, marked-in}
 use Rattle.search.specs.Exhausted.{Narrow}
 use Rattle.search.specs.Trail.{_!_, Takers, Givers, takersOf, giversOf, Trail}
 use Rattle.search.specs.Searched.{Listed, Searched}
-use Rattle.search.specs.Steps.{Stored, Joined, Seeded, Longer, Following, Onward, Visiting}
+use Rattle.search.specs.Steps.{Joined, Seeded, Longer, Following, Onward, Visiting}
 use Rattle.search.proofs.Gain.{gain-cases, gain-keeps, gain-has}
-use Rattle.search.proofs.Queue.{kept, below-next, none-listed, listed-more}
+use Rattle.search.proofs.Queue.{listed-more}
 use Rattle.search.proofs.Reasons.{trail-start, trail-taker, trail-giver, taker-below, giver-below}
 
 pub seed-start : {share row queue : List ℕ} → Empty row → Seeded share 0 row queue 0
 seed-start {share} {row} {queue} none =
     record {
-      queued = none-listed row queue none;
+      queued = queued-none 256 (members row) queue none;
       roots = λ w l h. absurd (omega arith);
       only = λ w h. absurd (none w h);
     }
@@ -94,7 +95,7 @@ follow-more {s = s} f o j p =
             queued = listed-more j (unlisted o) (f .longer .queued);
             more = omega arith;
             keeps = gain-keeps j;
-            prefix = kept (j .put);
+            prefix = stored-below (j .put);
           });
       trail = λ pred share n g narrow giver early r.
           trail-taker (f .trail pred share n g narrow giver early r) narrow j p giver (omega (arith, f .longer .more)) (o .first);

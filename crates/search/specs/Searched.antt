@@ -1,19 +1,15 @@
 -- What a search leaves.
 use Prim.Native.Nat.{ℕ, _≤_, _<_}
 use mathlib.Core.List.{List}
-use mathlib.Core.Path.{_≡_}
-use Rattle.finite.specs.Count.{count}
+use Rattle.finite.specs.Queue.{Queued}
 use Rattle.ids.specs.Limits.{mostEvents}
 use Rattle.search.specs.Row.{members, In}
 use Rattle.search.specs.Exhausted.{Exhausted}
-use Rattle.search.specs.Trail.{_!_, Takers, Givers, Trail}
+use Rattle.search.specs.Trail.{Takers, Givers, Trail}
 
 -- The first places of the queue list the members of the row, each once.
-pub record Listed (row queue : List ℕ) (tail : ℕ) : Type 0 where
-  pub listed : (i : ℕ) → i < tail → In row (queue ! i)
-  pub placed : (w : ℕ) → In row w → (i : ℕ) × (i < tail) × (queue ! i ≡ w)
-  pub counted : tail ≡ count mostEvents (members row)
-  pub once : (i j : ℕ) → i < j → j < tail → ¬ (queue ! i ≡ queue ! j)
+abbrev pub Listed : List ℕ → List ℕ → ℕ → Type 0
+Listed row queue tail = Queued mostEvents (members row) queue tail
 
 -- The takers and givers reached are numbers below n, a search may stop at them, and they have a trail by which they lie within whatever
 -- else it may stop at.

@@ -2,17 +2,13 @@
 use Prim.Native.Nat.{ℕ, _≤_, _<_}
 use mathlib.Core.List.{List}
 use mathlib.Core.Path.{_≡_}
+use Rattle.finite.specs.Queue.{Stored}
 use Rattle.ids.specs.Limits.{mostEvents}
 use Rattle.marks.specs.Marks.{MarkAdded}
 use Rattle.search.specs.Row.{In, AllIn}
 use Rattle.search.specs.Exhausted.{Narrow}
 use Rattle.search.specs.Trail.{_!_, Takers, Givers, Trail}
 use Rattle.search.specs.Searched.{Listed}
-
--- The number x is stored at a place of a list. Other places stay.
-pub record Stored (old new : List ℕ) (at x : ℕ) : Type 0 where
-  pub here : new ! at ≡ x
-  pub others : (i : ℕ) → ¬ (i ≡ at) → new ! i ≡ old ! i
 
 -- The event v joins a set, and the number x is stored at a place of the list that goes with it.
 pub record Joined (row row′ : List ℕ) (v : ℕ) (list list′ : List ℕ) (at x : ℕ) : Type 0 where

@@ -8,12 +8,13 @@ use last_mark::Found;
 ghost use Prim.Native.Nat.{_≤_, _<_};
 ghost use lib.ListN.{length};
 ghost use Rattle.ids.specs.Lent.{was, is};
+ghost use Rattle.finite.specs.Queue.{Stored};
 ghost use Rattle.ids.specs.Limits.{mostEvents};
 ghost use Rattle.search.specs.Row.{Empty, AllIn};
 ghost use Rattle.search.specs.Exhausted.{Narrow};
 ghost use Rattle.search.specs.Trail.{_!_, giversAre, giversWere, takersAre, takersWere};
 ghost use Rattle.search.specs.Searched.{Listed, Searched};
-ghost use Rattle.search.specs.Steps.{Stored, Joined, Seeded, Following, Visiting};
+ghost use Rattle.search.specs.Steps.{Joined, Seeded, Following, Visiting};
 
 fn put(list: &mut [usize], at: usize, v: Event)
     requires { ⌜ at < length (now list) ⌝ }

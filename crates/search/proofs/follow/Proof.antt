@@ -5,7 +5,7 @@ use borrow.Author.Needs.{needs}
 use Rattle.last_mark.specs.Found.{Only}
 use Rattle.search.specs.Trail.{takersOf}
 use Rattle.search.specs.Steps.{Following}
-use Rattle.search.proofs.Queue.{room}
+use Rattle.finite.specs.Queue.{queued-room}
 use Rattle.search.proofs.Rounds.{all-in, unlisted, follow-start, follow-more}
 use Rattle.search.proofs.follow.Statement.{statement}
 use Rattle.search.proofs.follow.Tie as tie
@@ -27,7 +27,7 @@ fresh c = let told = rw (c .x .given .1) at (c .before .before .last-only .ensur
 
 -- there is room for it
 fits : (c : tie.After-x Inv-loop μ-loop) → head c .loop .end < 256
-fits c = room (head c .loop .inv .longer .queued) (c .x .given .0 .0) (fresh c .below) (unlisted (fresh c))
+fits c = queued-room (head c .loop .inv .longer .queued) (c .x .given .0 .0) (fresh c .below) (unlisted (fresh c))
 
 returns : tie.Need-returns Inv-loop μ-loop
 returns c = (search, all-in (rw (c .enum-told .given .1) at (c .before .before .last-only .ensures)))

@@ -1,6 +1,6 @@
 -- It rests on what a list holds after one store.
 use borrow.Author.Needs.{needs}
-use Rattle.search.proofs.Queue.{stored}
+use Rattle.finite.specs.Queue.{stored}
 use Rattle.search.proofs.put.Statement.{statement}
 use Rattle.search.proofs.put.Tie as tie
 

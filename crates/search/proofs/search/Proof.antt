@@ -4,7 +4,7 @@ use native.Mathlib.Omega.{arith}
 use borrow.Author.Needs.{needs}
 use Rattle.search.specs.Trail.{takersOf, giversOf}
 use Rattle.search.proofs.Gain.{zeros-empty}
-use Rattle.search.proofs.Queue.{listed-le}
+use Rattle.finite.specs.Queue.{queued-le}
 use Rattle.search.proofs.Rounds.{Searching, search-start, search-more, search-done}
 use Rattle.search.proofs.search.Statement.{statement}
 use Rattle.search.proofs.search.Tie as tie
@@ -19,7 +19,7 @@ abbrev μ-loop : tie.MeasureT-loop
 
 -- the place at `head` is one of 256
 place : (c : tie.In-loop Inv-loop μ-loop) → c .before .loop .head < 256
-place c = omega (arith, listed-le (c .before .loop .inv .queued))
+place c = omega (arith, queued-le (c .before .loop .inv .queued))
 
 loop-again : tie.Need-loop-again Inv-loop μ-loop
 loop-again c =

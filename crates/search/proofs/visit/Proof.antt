@@ -7,7 +7,8 @@ use Rattle.last_mark.specs.Found.{Only}
 use Rattle.search.specs.Row.{members, in-below}
 use Rattle.search.specs.Trail.{_!_, takersOf, giversOf}
 use Rattle.search.specs.Steps.{Visiting}
-use Rattle.search.proofs.Queue.{listed-le, fewer-left}
+use Rattle.finite.specs.Queue.{queued-le}
+use Rattle.search.proofs.Queue.{fewer-left}
 use Rattle.search.proofs.Rounds.{all-in, unlisted, visit-start, visit-more}
 use Rattle.search.proofs.visit.Statement.{statement}
 use Rattle.search.proofs.visit.Tie as tie
@@ -21,7 +22,7 @@ abbrev μ-loop : tie.MeasureT-loop
     256 - count 256 (members givers)
 
 place : (c : tie.Start Inv-loop μ-loop) → c .args .head < 256
-place c = omega (arith, listed-le (c .pre .0))
+place c = omega (arith, queued-le (c .pre .0))
 
 taker : (c : tie.Start Inv-loop μ-loop) → c .args .queue .now ! c .args .head < 256
 taker c = let a = c .args in in-below (a .takers .now) (a .queue .now ! a .head) (c .pre .0 .listed (a .head) (c .pre .1))
