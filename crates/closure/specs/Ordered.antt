@@ -8,17 +8,12 @@ use lib.Dec.{T, eqb, eqb→eq, eqb-refl}
 use mir.Facts.{and-yes, yes-and}
 use Rattle.finite.specs.Bounded.{any, any-yes, yes-any}
 use Rattle.plan.specs.Net.{Plan}
-use Rattle.plan.specs.Order.{Before, pair, chain}
+use Rattle.plan.specs.Order.{Before, pair, chain, Named}
 use Rattle.closure.specs.Reach.{reach, reach-step, reach-chain, reach-least, reach-turned}
 
 -- (u, v) is one of the first m order pairs
 unfoldable pub isPair : Plan → ℕ → ℕ → ℕ → Bool
 isPair P m u v = any m (λ i. eqb u (P .earlier i) && eqb v (P .later i))
-
--- the pairs name events
-pub record Named (P : Plan) : Type 0 where
-  pub earlier : (i : ℕ) → i < P .pairs → P .earlier i < P .events
-  pub later : (i : ℕ) → i < P .pairs → P .later i < P .events
 
 module _ (P : Plan) where
   pub pair-before : (u v : ℕ) → T (isPair P (P .pairs) u v) → Before P u v

@@ -12,13 +12,13 @@ use lib.ListN.{replicate}
 use Rattle.ids.specs.Limits.{mostEvents}
 use Rattle.finite.specs.Bounded.{any, any-ext, any-yes, yes-any, decide}
 use Rattle.plan.specs.Net.{Plan}
-use Rattle.plan.specs.Order.{Before, before, skeleton}
+use Rattle.plan.specs.Order.{Before, before, skeleton, Named}
 use Rattle.plan.specs.Closure.{says-before}
 use Rattle.marks.specs.Marks.{marked, meeting, none-marked, MarkAdded}
 use Rattle.closure.specs.Between.{meeting-between}
 use Rattle.closure.specs.ClosedRows.{cyclic, closed-only, ClosedRows}
 use Rattle.closure.specs.Reach.{reach}
-use Rattle.closure.specs.Ordered.{isPair, before-events, pair-before, reach-before, reach-after, Named}
+use Rattle.closure.specs.Ordered.{isPair, before-events, pair-before, reach-before, reach-after}
 
 -- The marks are those of R.
 pub record Marks (R : ℕ → ℕ → Bool) (rows : List ℕ) : Type 0 where

@@ -5,8 +5,8 @@ use mathlib.Core.List.{List}
 use mathlib.Core.Option.{none}
 use mathlib.Core.Path.{_≡_, sym, ap, _∙_}
 use Rattle.closure.specs.ClosedRows.{cyclic as cyclicRows, ClosedRows}
-use Rattle.closure.specs.Ordered.{Named}
 use Rattle.closure.specs.PlanRows.{closed-successors, closed-predecessors, cycle-rows, Successors}
+use Rattle.plan.specs.Order.{Named}
 use Rattle.sheet.specs.Table.{pairsOf}
 use Rattle.sheet.specs.Items.{planOf}
 use Rattle.sheet.specs.Faults.{noEvent, repeated, cycleAt, cyclic, orderFaults, firstFault}

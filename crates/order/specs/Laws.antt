@@ -3,10 +3,9 @@ use Prim.Native.Nat.{ℕ, _<_}
 use mathlib.Core.Bool.{not}
 use mathlib.Core.List.{List}
 use mathlib.Core.Path.{_≡_}
-use Rattle.plan.specs.Order.{before, skeleton}
+use Rattle.plan.specs.Order.{Named, before, skeleton}
 use Rattle.plan.specs.Closure.{says-before}
 use Rattle.marks.specs.Marks.{marked, meeting}
-use Rattle.closure.specs.Ordered.{Named}
 use Rattle.closure.specs.PlanRows.{skeleton-rows}
 use Rattle.sheet.specs.Table.{eventsOf, pairsOf}
 use Rattle.sheet.specs.Items.{earlierAt, laterAt, planOf}

@@ -24,6 +24,11 @@ beforeBy P (suc k) u v =
 unfoldable pub before : Plan → ℕ → ℕ → Bool
 before P u v = beforeBy P (P .pairs) u v
 
+-- A plan whose pairs name events.
+pub record Named (P : Plan) : Type 0 where
+  pub earlier : (i : ℕ) → i < P .pairs → P .earlier i < P .events
+  pub later : (i : ℕ) → i < P .pairs → P .later i < P .events
+
 -- A plan whose pairs name events and whose order has no cycle. 003, definition 1: < is irreflexive.
 pub record Sound (P : Plan) : Type 0 where
   pub earlier-named : (i : ℕ) → i < P .pairs → P .earlier i < P .events

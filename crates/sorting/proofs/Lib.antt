@@ -1,0 +1,5 @@
+mod Listing
+mod Lowering
+mod Walks
+mod Seeding
+mod Lists

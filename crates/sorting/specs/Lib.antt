@@ -1,0 +1,5 @@
+pub mod Waiting
+pub mod Sorted
+pub mod Steps
+pub mod Rows
+pub mod Cycle
