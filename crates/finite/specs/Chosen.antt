@@ -3,16 +3,14 @@ use Prim.Native.Nat.{ℕ, zero, suc, _+_, _≤_, _<_}
 use native.Mathlib.Nat.{le-step, lt-suc-self}
 use native.Mathlib.Numerals.{add-one}
 use native.Mathlib.Omega.{arith}
-use mathlib.Core.Bool.{Bool, true, false, cond, _&&_}
+use mathlib.Core.Bool.{Bool, true, false, cond}
 use mathlib.Core.List.{List, [], _∷_, _++_, append-nil}
 use mathlib.Core.Logic.{⊎-elim}
-use mathlib.Core.Path.{_≡_, refl, sym, ap, ap₂, subst, _∙_}
+use mathlib.Core.Path.{_≡_, refl, sym, subst, _∙_}
 use lib.Dec.{T, ltb, ltb→lt, nltb→le}
 use lib.ListN.{length, getD, length-append, List·getD-append}
 use lib.Seq.{getD-at}
-use mir.Facts.{and-yes, yes-and}
-use Rattle.finite.specs.Bounded.{any, any-yes, yes-any, below-suc, decide, same}
-use Rattle.finite.specs.Each.{each, each-ext}
+use Rattle.finite.specs.Bounded.{below-suc, decide}
 
 -- the number n, if it passes
 abbrev pub ifPasses : Bool → ℕ → List ℕ
@@ -121,54 +119,21 @@ module _ (f : ℕ → Bool) where
       (λ low. chosen-all n (λ i m. all i (le-step m)) k (omega (arith, chosen-length n)))
       (λ t here. omega (arith, chosen-count n (λ i m. all i (le-step m))))
 
-  -- some of them passes another test exactly if some number passes both
-  pub any-chosen : (n : ℕ) (g : ℕ → Bool) → any (length (chosen n f)) (λ k. g (getD (chosen n f) k 0)) ≡ any n (λ i. f i && g i)
-  any-chosen n g =
-      same
-      (any (length (chosen n f)) (λ k. g (getD (chosen n f) k 0)))
-      (any n (λ i. f i && g i))
-      (λ t.
-      let some = any-yes (length (chosen n f)) (λ k. g (getD (chosen n f) k 0)) t in
-      let i = getD (chosen n f) (some .0) 0 in
-      let is = chosen-in n (some .0) (some .1) in
-      yes-any n (λ i. f i && g i) i (is .0) (yes-and (f i) (g i) (is .1) (some .2)))
-      (λ t.
-      let some = any-yes n (λ i. f i && g i) t in
-      let both = and-yes (f (some .0)) (g (some .0)) (some .2) in
-      let is = chosen-at n (some .0) (some .1) (both .0) in
-      yes-any
-      (length (chosen n f))
-      (λ k. g (getD (chosen n f) k 0))
-      (is .0)
-      (is .1)
-      (subst (λ (i : ℕ). T (g i)) (sym (is .2)) (both .1)))
-
 -- What a loop knows that counts them.
 module _ (f : ℕ → Bool) (i : ℕ) where
   pub chosen-more : f i ≡ true → length (chosen (i + 1) f) ≡ length (chosen i f) + 1
   unfolding chosen
   chosen-more e = rw add-one (rw e (length-append (chosen i f) (i ∷ [])))
 
-  pub chosen-same : f i ≡ false → length (chosen (i + 1) f) ≡ length (chosen i f)
+  pub chosen-same : f i ≡ false → chosen (i + 1) f ≡ chosen i f
   unfolding chosen
-  chosen-same e = rw add-one (rw e (ap length (append-nil (chosen i f))))
+  chosen-same e = rw add-one (rw e (append-nil (chosen i f)))
 
--- A list for each of them, one after another, is one for each number that passes.
-either-each : (xs : List ℕ) (b : Bool) (n : ℕ) (g : ℕ → List ℕ)
-    → each (length (xs ++ ifPasses b n)) (λ k. g (getD (xs ++ ifPasses b n) k 0)) ≡ each (length xs) (λ k. g (getD xs k 0)) ++ cond b (g n) []
-unfolding each
-either-each xs true n g =
-    let one : length (xs ++ n ∷ []) ≡ suc (length xs) = omega (arith, length-append xs (n ∷ [])) in
-    ap (λ (m : ℕ). each m (λ k. g (getD (xs ++ n ∷ []) k 0))) one
-    ∙ ap₂
-    _++_
-    (each-ext (length xs) _ _ (λ k l. ap g (List·getD-append xs (n ∷ []) 0 k l)))
-    (ap g (getD-at xs n [] 0 (length xs) refl))
-either-each xs false n g =
-    ap (λ (ys : List ℕ). each (length ys) (λ k. g (getD ys k 0))) (append-nil xs) ∙ sym (append-nil (each (length xs) (λ k. g (getD xs k 0))))
+  -- the new one is behind the others, which stay
+  pub chosen-next : f i ≡ true → getD (chosen (i + 1) f) (length (chosen i f)) 0 ≡ i
+  unfolding chosen
+  chosen-next e = rw add-one (rw e (getD-at (chosen i f) i [] 0 (length (chosen i f)) refl))
 
-pub each-chosen : (n : ℕ) (f : ℕ → Bool) (g : ℕ → List ℕ) → each (length (chosen n f)) (λ k. g (getD (chosen n f) k 0)) ≡ each n (λ i. cond (f i) (g i) [])
-unfolding each chosen
-each-chosen zero f g = refl
-each-chosen (suc n) f g =
-    either-each (chosen n f) (f n) n g ∙ ap (λ (ys : List ℕ). ys ++ cond (f n) (g n) []) (each-chosen n f g)
+  pub chosen-old : (k : ℕ) → k < length (chosen i f) → getD (chosen (i + 1) f) k 0 ≡ getD (chosen i f) k 0
+  unfolding chosen
+  chosen-old k l = rw add-one (List·getD-append (chosen i f) (ifPasses (f i) i) 0 k l)

@@ -23,7 +23,6 @@ use Rattle.text.specs.Put.{Put}
 use Rattle.mending.specs.Clean.{cleanOf}
 use Rattle.mending.specs.Mendable.{mendable, CallClear, call-clear}
 use Rattle.mending.specs.Mended.{sheetFault, mendFault, mendSays, cleanAfter, reasonsAfter}
-use Rattle.mending.specs.PairsKnown.{HoldsReasons}
 
 -- Numbers put at the start of a row fill it.
 put-filled : (f : ℕ → ℕ) (k : ℕ) (text old new : List ℕ) (end : ℕ) → length text ≡ k → ((i : ℕ) → i < k → getD text i 0 ≡ f i) → Put old new 0 text end → Filled f k old new
@@ -41,10 +40,6 @@ put-filled f k text old new end long numbers put =
           ∙ getD-drop end old j 0
           ∙ ap (λ (n : ℕ). getD old n 0) same;
     }
-
--- a row of the reasons
-pub holds : (s old given : List ℕ) → Filled (reasonAt s) (pairsOf s) old given → mostPairs ≤ length given → Laid s → HoldsReasons s given
-holds s old given written long known = record { room = omega (arith, known .limited .pairs); reasons = written .numbers }
 
 module _ (s clean reasons : List ℕ) where
   -- the fault of the call, by its three links

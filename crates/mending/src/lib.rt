@@ -10,10 +10,9 @@ ghost use Rattle.calls.specs.Refusal.{FaultTold};
 ghost use Rattle.ids.specs.Lent.{was, is};
 ghost use Rattle.ids.specs.Limits.{mostPairs};
 ghost use Rattle.layout.specs.Layout.{LaidBy};
-ghost use Rattle.reasons.specs.KeptRows.{KeptRows};
 ghost use Rattle.reasons.specs.Reasons.{keptCycle};
-ghost use Rattle.sheet.specs.Table.{pairsOf};
 ghost use Rattle.sheet.specs.Told.{tell, plain};
+ghost use Rattle.sorting.specs.Rows.{planBy, PlanInRows, hasCycle};
 ghost use Rattle.mending.specs.Mended.{sheetFault, mendSays, cleanAfter, reasonsAfter};
 ghost use Rattle.mending.specs.PairsKnown.{PairsKnown};
 use calls::Written;
@@ -21,17 +20,16 @@ use calls::with_row;
 use clean::put_clean;
 use fault::Examined;
 use ids::PAIRS;
-use ids::ROWS;
 use items::number_fault;
 use layout::Layout;
 use layout::layout_fault;
 use layout::layout_of;
 use layout::no_layout;
 use reasons::give_reasons;
-use reasons::has_kept_cycle;
 use sheet::Fault;
 use sheet::no_fault;
 use sheet::plain_fault;
+use sorting::has_cycle;
 use text::put_word;
 
 // What the pairs of a sheet were found to be: the fault that stands in the way, the sheet's layout where there is none, and how many are kept.
@@ -41,27 +39,31 @@ pub struct PairsExamined {
 }
 
 // 11, on the pairs that are kept.
-fn cycle_fault(s: &[u8], l: Layout, succ: &mut [u32; ROWS]) -> Fault
-    requires { ⌜ LaidBy (now s) l ⌝ }
-    requires { ⌜ KeptRows (now s) (pairsOf (now s)) (now succ) ⌝ }
-    ensures { λ r. ⌜ r ≡ tell 11 (plain (keptCycle (was s))) ⌝ }
+fn cycle_fault(events: usize, kept: usize, from: &[u8; PAIRS], to: &[u8; PAIRS]) -> Fault
+    requires { ⌜ PlanInRows events kept (now from) (now to) ⌝ }
+    ensures { λ r. ⌜ r ≡ tell 11 (plain (hasCycle (planBy events kept (was from) (was to)))) ⌝ }
 {
-    if has_kept_cycle(s, l, succ) {
+    if has_cycle(events, kept, from, to) {
         return plain_fault(11);
     }
     no_fault()
 }
 
-// The reasons of the pairs, how many are kept, and their fault.
-fn examine_pairs(s: &[u8], l: Layout, reasons: &mut [u8]) -> PairsExamined
+// The reasons of the pairs, the ends of those that are kept, how many these are, and their fault.
+fn examine_pairs(
+    s: &[u8],
+    l: Layout,
+    reasons: &mut [u8],
+    from: &mut [u8; PAIRS],
+    to: &mut [u8; PAIRS],
+) -> PairsExamined
     requires { ⌜ LaidBy (now s) l ⌝ }
     requires { ⌜ mostPairs ≤ length (now reasons) ⌝ }
     ensures { λ r. ⌜ (r .examined .fault ≡ tell 11 (plain (keptCycle (was s)))) × (r .examined .layout ≡ l) ⌝ }
-    ensures { λ r. ⌜ PairsKnown (was s) (was reasons) (is reasons) (r .kept) ⌝ }
+    ensures { λ r. ⌜ PairsKnown (was s) (was reasons) (is reasons) (is from) (is to) (r .kept) ⌝ }
 {
-    let mut succ = [0u32; ROWS];
-    let kept = give_reasons(s, l, reasons, &mut succ);
-    let fault = cycle_fault(s, l, &mut succ);
+    let kept = give_reasons(s, l, reasons, from, to);
+    let fault = cycle_fault(l.events, kept, from, to);
     let examined = Examined { fault, layout: l };
     PairsExamined { examined, kept }
 }
@@ -76,10 +78,16 @@ fn unexamined(fault: Fault) -> PairsExamined
 }
 
 // The fault that stands in the way of mending, but for the rows that are lent. If there is none, the pairs are found.
-fn examine_sheet(s: &[u8], reasons: &mut [u8]) -> PairsExamined
+fn examine_sheet(
+    s: &[u8],
+    reasons: &mut [u8],
+    from: &mut [u8; PAIRS],
+    to: &mut [u8; PAIRS],
+) -> PairsExamined
     requires { ⌜ mostPairs ≤ length (now reasons) ⌝ }
     ensures { λ r. ⌜ FaultTold (was s) (sheetFault (was s)) (r .examined) ⌝ }
-    ensures { λ r. ⌜ (sheetFault (was s) .number ≡ 0 → PairsKnown (was s) (was reasons) (is reasons) (r .kept)) ⌝ }
+    ensures { λ r.
+        ⌜ (sheetFault (was s) .number ≡ 0 → PairsKnown (was s) (was reasons) (is reasons) (is from) (is to) (r .kept)) ⌝ }
 {
     let misplaced = layout_fault(s);
     if misplaced.number != 0 {
@@ -90,7 +98,7 @@ fn examine_sheet(s: &[u8], reasons: &mut [u8]) -> PairsExamined
     if number.number != 0 {
         return unexamined(number);
     }
-    examine_pairs(s, l, reasons)
+    examine_pairs(s, l, reasons, from, to)
 }
 
 // Writes the clean sheet of any bytes into one lent row, the reason of each given pair into the other, and tells the clean sheet's length. A refused
@@ -101,7 +109,9 @@ pub fn mend(s: &[u8], clean: &mut [u8], reasons: &mut [u8]) -> Written
     ensures { λ _. ⌜ is reasons ≡ reasonsAfter (was s) (was clean) (was reasons) ⌝ }
 {
     let mut given = [0u8; PAIRS];
-    let found = examine_sheet(s, &mut given);
+    let mut from = [0u8; PAIRS];
+    let mut to = [0u8; PAIRS];
+    let found = examine_sheet(s, &mut given, &mut from, &mut to);
     let e = found.examined;
     let l = e.layout;
     let a = with_row(e, reasons.len(), l.pairs);
@@ -111,6 +121,6 @@ pub fn mend(s: &[u8], clean: &mut [u8], reasons: &mut [u8]) -> Written
         return Written::Refused(f);
     }
     put_word(reasons, 0, &given[..l.pairs]);
-    let n = put_clean(s, l, found.kept, &given, clean);
+    let n = put_clean(s, l, found.kept, &from, &to, clean);
     Written::Length(n)
 }

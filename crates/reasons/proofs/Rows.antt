@@ -1,30 +1,23 @@
--- The marks of the kept pairs: they say whether the next pair is a repeat, how they go on with it, and that they are the pairs of the kept plan.
+-- The marks of the kept pairs: they say whether the next pair is a repeat, and how they go on with it.
 use Prim.Native.Nat.{ℕ, _+_, _≤_}
 use native.Mathlib.Nat.{lt-of-lt-of-le}
 use native.Mathlib.Numerals.{add-one}
-use native.Mathlib.Omega.{arith}
 use mathlib.Core.Bool.{Bool, true, false, not, _&&_, _||_}
 use mathlib.Core.List.{List}
 use mathlib.Core.Path.{_≡_, refl, sym, ap, ap₂, subst, _∙_}
 use denote.Floats.{is-true}
 use lib.Dec.{T, eqb, eqb→eq}
+use lib.ListN.{replicate}
 use mir.Facts.{and-yes, yes-and, yes-eqb}
-use Rattle.closure.specs.Ordered.{isPair}
-use Rattle.closure.specs.ClosedRows.{cyclic, ClosedRows}
-use Rattle.closure.specs.PlanRows.{PairRows, closed-successors, cycle-rows}
-use Rattle.finite.specs.Bounded.{any, any-ext, any-yes, yes-any, same}
-use Rattle.finite.specs.Chosen.{any-chosen}
-use Rattle.ids.specs.Limits.{mostEvents, rowsWords}
-use Rattle.layout.specs.declared.Layout.{Layout}
-use Rattle.layout.specs.Layout.{LaidBy}
+use Rattle.finite.specs.Bounded.{any, any-ext, same}
+use Rattle.ids.specs.Limits.{mostEvents}
 use Rattle.marks.specs.Marks.{marked, none-marked, MarkAdded}
-use Rattle.order.specs.Rows.{Blank}
 use Rattle.sheet.specs.Faults.{noEventAt, selfPairAt, samePair, repeatAt}
 use Rattle.sheet.specs.Items.{earlierAt, laterAt}
-use Rattle.sheet.specs.Table.{eventsOf, pairsOf}
+use Rattle.sheet.specs.Table.{eventsOf}
 use Rattle.reasons.specs.KeptRows.{properAt, isProper, KeptRows, reasonBy}
-use Rattle.reasons.specs.Laws.{kept-names, names-ends, same-names, same-yes, yes-same, first-kept, kept-named}
-use Rattle.reasons.specs.Reasons.{reason, reasonAt, kept, namesTwo, keptPlan, keptCycle}
+use Rattle.reasons.specs.Laws.{names-ends, same-names, same-yes, yes-same}
+use Rattle.reasons.specs.Reasons.{reason, reasonAt, namesTwo}
 
 -- the third test counts only where the first two fail
 reason-agrees : (x y p q : Bool) → (T (not x && not y) → p ≡ q) → reason x y p ≡ reason x y q
@@ -33,9 +26,9 @@ reason-agrees false true p q h = refl
 reason-agrees false false p q h = ap (λ (z : Bool). reason false false z) (h tt)
 
 module _ (s : List ℕ) where
-  pub rows-start : (succ : List ℕ) → Blank succ → KeptRows s 0 succ
+  pub rows-start : (n : ℕ) → KeptRows s 0 (replicate n 0)
   unfolding isProper any
-  rows-start succ blank = record { marks = λ u v h. rw blank (none-marked rowsWords u v) }
+  rows-start n = record { marks = λ u v h. none-marked n u v }
 
   -- a pair that names two different events is among those so far exactly if it repeats one of them
   proper-repeats : (i : ℕ) → T (namesTwo s i) → isProper s i (earlierAt s i) (laterAt s i) ≡ repeatAt s i
@@ -103,44 +96,3 @@ module _ (s : List ℕ) where
           let both = and-yes (namesTwo s i) (eqb u (earlierAt s i) && eqb v (laterAt s i)) p in
           let ends = and-yes (eqb u (earlierAt s i)) (eqb v (laterAt s i)) (both .1) in
           subst T (sym (ap₂ (isProper s i) (eqb→eq u (earlierAt s i) (ends .0)) (eqb→eq v (laterAt s i) (ends .1)) ∙ proper-repeats i (both .0))) (again (both .0))
-
-  -- these are the pairs of the kept plan
-  kept-rows : (succ : List ℕ) → KeptRows s (pairsOf s) succ → PairRows (keptPlan s) (keptPlan s .pairs) succ
-  unfolding isPair isProper
-  kept-rows succ g = record { marks = λ u v h. g .marks u v h ∙ sym (pairs u v) }
-    where
-      pairs : (u v : ℕ) → isPair (keptPlan s) (keptPlan s .pairs) u v ≡ isProper s (pairsOf s) u v
-      pairs u v =
-          any-chosen (kept s) (pairsOf s) (λ i. eqb u (earlierAt s i) && eqb v (laterAt s i))
-          ∙ same
-          (any (pairsOf s) (λ i. kept s i && (eqb u (earlierAt s i) && eqb v (laterAt s i))))
-          (any (pairsOf s) (properAt s u v))
-          (λ t.
-          let some = any-yes (pairsOf s) (λ i. kept s i && (eqb u (earlierAt s i) && eqb v (laterAt s i))) t in
-          let i = some .0 in
-          let both = and-yes (kept s i) (eqb u (earlierAt s i) && eqb v (laterAt s i)) (some .2) in
-          yes-any (pairsOf s) (properAt s u v) i (some .1) (yes-and (namesTwo s i) (eqb u (earlierAt s i) && eqb v (laterAt s i)) (kept-names s i (both .0) .0) (both .1)))
-          (λ t.
-          let some = any-yes (pairsOf s) (properAt s u v) t in
-          let i = some .0 in
-          let both = and-yes (namesTwo s i) (eqb u (earlierAt s i) && eqb v (laterAt s i)) (some .2) in
-          let found = first-kept s i (both .0) in
-          let j = found .0 in
-          yes-any
-          (pairsOf s)
-          (λ i. kept s i && (eqb u (earlierAt s i) && eqb v (laterAt s i)))
-          j
-          (omega (arith, found .1, some .1))
-          (yes-and
-          (kept s j)
-          (eqb u (earlierAt s j) && eqb v (laterAt s j))
-          (found .2)
-          (subst T (ap₂ (λ (x y : ℕ). eqb u x && eqb v y) (found .3 .earlier) (found .3 .later)) (both .1))))
-
-  -- closed, they show a cycle
-  pub kept-cycle : (l : Layout) → LaidBy s l → (succ succ₁ : List ℕ) → KeptRows s (pairsOf s) succ → ClosedRows succ succ₁ (l .events) (l .events)
-      → cyclic succ₁ (l .events) ≡ keptCycle s
-  unfolding keptCycle
-  kept-cycle l known succ succ₁ g closed =
-      let after = closed-successors (keptPlan s) (kept-named s) (known .0 .limited .events) succ succ₁ (rw (known .1 .events) at closed) (kept-rows succ g) in
-      rw (known .1 .events) (cycle-rows (keptPlan s) (kept-named s) succ₁ after)

@@ -1,14 +1,22 @@
--- The kept pairs in rows of marks, and the reason of a pair by those before it.
-use Prim.Native.Nat.{ℕ}
+-- The kept pairs in rows, of marks and of events, and the reason of a pair by those before it.
+use Prim.Native.Nat.{ℕ, _<_}
 use mathlib.Core.Bool.{Bool, _&&_, _||_}
 use mathlib.Core.List.{List}
 use mathlib.Core.Path.{_≡_}
 use lib.Dec.{eqb, leb}
+use lib.ListN.{length, getD}
 use Rattle.closure.specs.PlanRows.{Marks}
 use Rattle.finite.specs.Bounded.{any}
+use Rattle.finite.specs.Chosen.{chosen}
+use Rattle.finite.specs.Queue.{Stored}
 use Rattle.marks.specs.Marks.{marked, MarkAdded}
 use Rattle.sheet.specs.Items.{earlierAt, laterAt}
-use Rattle.reasons.specs.Reasons.{reason, namesTwo}
+use Rattle.reasons.specs.Reasons.{reason, kept, namesTwo}
+
+-- Those of the first m pairs that are kept, in two rows: that of the earlier events and that of the later ones.
+pub record HoldsKept (s : List ℕ) (m : ℕ) (from to : List ℕ) : Type 0 where
+  pub earlier : (k : ℕ) → k < length (chosen m (kept s)) → getD from k 0 ≡ earlierAt s (getD (chosen m (kept s)) k 0)
+  pub later : (k : ℕ) → k < length (chosen m (kept s)) → getD to k 0 ≡ laterAt s (getD (chosen m (kept s)) k 0)
 
 -- pair i is (u, v), and names two different events
 abbrev pub properAt : List ℕ → ℕ → ℕ → ℕ → Bool
@@ -30,3 +38,8 @@ reasonBy events succ a b = reason (leb events a || leb events b) (eqb a b) (mark
 pub record MarkedIfKept (old new : List ℕ) (a b reason more : ℕ) : Type 0 where
   pub keeps : reason ≡ 0 → MarkAdded old new a b × (more ≡ 1)
   pub drops : ¬ (reason ≡ 0) → (new ≡ old) × (more ≡ 0)
+
+-- One end of it is put into a row if it is kept.
+pub record PutIfKept (old new : List ℕ) (at x reason : ℕ) : Type 0 where
+  pub keeps : reason ≡ 0 → Stored old new at x
+  pub drops : ¬ (reason ≡ 0) → new ≡ old

@@ -11,7 +11,6 @@ use denote.Floats.{is-true}
 use lib.Dec.{T, eqb, eqb→eq, leb}
 use lib.Ieee.Bits.{is-false}
 use mir.Facts.{and-yes, yes-and, yes-eqb}
-use Rattle.closure.specs.Ordered.{Named}
 use Rattle.finite.specs.Bounded.{any, any-yes, yes-any, decide}
 use Rattle.finite.specs.Chosen.{chosen-in}
 use Rattle.finite.specs.Search.{nothing-found}
@@ -81,11 +80,22 @@ module _ (s : List ℕ) where
       ends false false true a b c t = absurd t
       ends false false false a b c t = (leb-false _ _ a, leb-false _ _ b, eqb-false _ _ c)
 
-  -- a pair that is kept names events
-  pub kept-few : (i a b r : ℕ) → eventsOf s ≤ mostEvents → a ≡ earlierAt s i → b ≡ laterAt s i → r ≡ reasonAt s i → r ≡ 0 → (a < mostEvents) × (b < mostEvents)
-  kept-few i a b r few ea eb er none =
-      let ends = names-ends i (kept-names i (kept-0 i (sym er ∙ none)) .0) in
-      (omega (arith, ends .0), omega (arith, ends .1))
+  -- A pair with another reason than 1 names events.
+  unless-1 : (i : ℕ) → ¬ (reasonAt s i ≡ 1) → (earlierAt s i < eventsOf s) × (laterAt s i < eventsOf s)
+  unfolding reasonAt noEventAt
+  unless-1 i other = ends (leb (eventsOf s) (earlierAt s i)) (leb (eventsOf s) (laterAt s i)) refl refl other
+    where
+      ends : (x y : Bool) → leb (eventsOf s) (earlierAt s i) ≡ x → leb (eventsOf s) (laterAt s i) ≡ y → ¬ (reason (x || y) (selfPairAt s i) (repeatAt s i) ≡ 1)
+          → (earlierAt s i < eventsOf s) × (laterAt s i < eventsOf s)
+      ends true y a b other = absurd (other refl)
+      ends false true a b other = absurd (other refl)
+      ends false false a b other = (leb-false _ _ a, leb-false _ _ b)
+
+  -- so its ends are numbers of events
+  pub ends-few : (i a b r : ℕ) → eventsOf s ≤ mostEvents → a ≡ earlierAt s i → b ≡ laterAt s i → r ≡ reasonAt s i → ¬ (r ≡ 1) → (a < mostEvents) × (b < mostEvents)
+  ends-few i a b r few ea eb er other =
+      let names = unless-1 i (λ one. other (er ∙ one)) in
+      (omega (arith, ea, names .0), omega (arith, eb, names .1))
 
   -- the same pair names the same events
   pub same-names : (i j : ℕ) → SameEnds s i j → T (namesTwo s i) → T (namesTwo s j)
@@ -165,9 +175,6 @@ module _ (s : List ℕ) where
   -- the kept pairs name two different events
   pub kept-ends : (k : ℕ) → k < keptCount s → (keptPlan s .earlier k < eventsOf s) × (keptPlan s .later k < eventsOf s) × ¬ (keptPlan s .earlier k ≡ keptPlan s .later k)
   kept-ends k l = names-ends (chosenPair (planOf s) (kept s) k) (kept-names _ (chosen-in (kept s) (pairsOf s) k l .1) .0)
-
-  pub kept-named : Named (keptPlan s)
-  kept-named = record { earlier = λ i l. kept-ends i l .0; later = λ i l. kept-ends i l .1 }
 
 -- A sheet without fault keeps every pair.
 module _ (s : List ℕ) (known : Faultless s) where

@@ -1,5 +1,5 @@
 // The reason of each pair of a sheet: 1 that it names no event, 2 that it is of an event with itself, 3 that it repeats an earlier pair, 0 that it is
-// kept. And whether the kept pairs have a cycle.
+// kept.
 ghost use Prim.Native.Nat.{_<_, _≤_};
 ghost use mathlib.Core.Bool.{_||_};
 ghost use mathlib.Core.Path.{_≡_};
@@ -9,13 +9,11 @@ ghost use Rattle.finite.specs.Filled.{Filled};
 ghost use Rattle.ids.specs.Lent.{was, is};
 ghost use Rattle.ids.specs.Limits.{mostEvents, mostPairs};
 ghost use Rattle.layout.specs.Layout.{LaidBy};
-ghost use Rattle.order.specs.Rows.{Blank};
 ghost use Rattle.sheet.specs.Table.{pairsOf};
-ghost use Rattle.reasons.specs.Reasons.{reasonAt, keptCount, keptCycle};
-ghost use Rattle.reasons.specs.KeptRows.{reasonBy, MarkedIfKept, KeptRows};
-use closure::close;
-use closure::has_cycle;
+ghost use Rattle.reasons.specs.Reasons.{reasonAt, keptCount};
+ghost use Rattle.reasons.specs.KeptRows.{reasonBy, HoldsKept, MarkedIfKept, PutIfKept};
 use ids::Event;
+use ids::PAIRS;
 use ids::ROWS;
 use layout::Layout;
 use lookup::earlier;
@@ -57,43 +55,52 @@ fn reason_of(events: usize, a: Event, b: Event, succ: &[u32; ROWS]) -> u8
     0
 }
 
-// Marks the pair (a, b) if it is kept, and tells how many are kept.
-fn keep(succ: &mut [u32; ROWS], a: Event, b: Event, reason: u8) -> usize
-    requires { ⌜ (reason ≡ 0 → (a .0 < mostEvents) × (b .0 < mostEvents)) ⌝ }
+// If the pair (a, b) is kept, marks it and puts its ends behind those of the others. Tells how many more are kept.
+fn keep(
+    succ: &mut [u32; ROWS],
+    from: &mut [u8],
+    to: &mut [u8],
+    at: usize,
+    a: Event,
+    b: Event,
+    reason: u8,
+) -> usize
+    requires { ⌜ (¬ (reason ≡ 1) → (a .0 < mostEvents) × (b .0 < mostEvents)) ⌝ }
+    requires { ⌜ (at < length (now from)) × (at < length (now to)) ⌝ }
     ensures { λ r. ⌜ MarkedIfKept (was succ) (is succ) (a .0) (b .0) reason r ⌝ }
+    ensures { λ _. ⌜ PutIfKept (was from) (is from) at (a .0) reason × PutIfKept (was to) (is to) at (b .0) reason ⌝ }
 {
     if reason == 0 {
         mark(succ, a.0, b.0);
+        from[at] = a.0 as u8;
+        to[at] = b.0 as u8;
         return 1;
     }
     0
 }
 
-// Writes the reason of each pair, marks the kept ones and returns how many they are.
-pub fn give_reasons(s: &[u8], l: Layout, reasons: &mut [u8], succ: &mut [u32; ROWS]) -> usize
+// Writes the reason of each pair, and the ends of those that are kept, and returns how many are kept. These are marked in rows, by which a repeat
+// is seen.
+pub fn give_reasons(
+    s: &[u8],
+    l: Layout,
+    reasons: &mut [u8],
+    from: &mut [u8; PAIRS],
+    to: &mut [u8; PAIRS],
+) -> usize
     requires { ⌜ LaidBy (now s) l ⌝ }
     requires { ⌜ mostPairs ≤ length (now reasons) ⌝ }
-    requires { ⌜ Blank (now succ) ⌝ }
     ensures { λ r. ⌜ Filled (reasonAt (was s)) (pairsOf (was s)) (was reasons) (is reasons) × (r ≡ keptCount (was s)) ⌝ }
-    ensures { λ _. ⌜ KeptRows (was s) (pairsOf (was s)) (is succ) ⌝ }
+    ensures { λ _. ⌜ HoldsKept (was s) (pairsOf (was s)) (is from) (is to) ⌝ }
 {
+    let mut succ = [0u32; ROWS];
     let mut kept = 0;
     for i in 0..l.pairs {
         let a = earlier(s, l, i);
         let b = later(s, l, i);
-        let reason = reason_of(l.events, a, b, succ);
+        let reason = reason_of(l.events, a, b, &succ);
         reasons[i] = reason;
-        kept += keep(succ, a, b, reason);
+        kept += keep(&mut succ, from, to, kept, a, b, reason);
     }
     kept
-}
-
-// Whether the order of the kept pairs, which are marked, has a cycle.
-pub fn has_kept_cycle(s: &[u8], l: Layout, succ: &mut [u32; ROWS]) -> bool
-    requires { ⌜ LaidBy (now s) l ⌝ }
-    requires { ⌜ KeptRows (now s) (pairsOf (now s)) (now succ) ⌝ }
-    ensures { λ r. ⌜ r ≡ keptCycle (was s) ⌝ }
-{
-    close(succ, l.events);
-    has_cycle(succ, l.events)
 }

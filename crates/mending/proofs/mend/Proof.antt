@@ -10,7 +10,7 @@ use Rattle.calls.specs.Refusal.{FaultTold}
 use Rattle.ids.specs.Limits.{mostPairs}
 use Rattle.layout.specs.Layout.{LayoutOf}
 use Rattle.mending.specs.Mended.{sheetFault, mendFault}
-use Rattle.mending.proofs.Answers.{fault-told, refused, known, laid, holds, mended}
+use Rattle.mending.proofs.Answers.{fault-told, refused, known, laid, mended}
 use Rattle.mending.proofs.mend.Statement.{statement}
 use Rattle.mending.proofs.mend.Tie as tie
 
@@ -71,7 +71,7 @@ put-clean-requires c κs =
     let stands = laid _ _ _ _ (told (chain none)) (none .if1 .left) in
     let pairs = seen none .examine-sheet .ensures .1 (clear none) in (
       (stands, layout-is none),
-      (holds _ _ _ (pairs .written) (given-long (seen none)) stands, pairs .count, known _ _ _ _ (told (chain none)) (none .if1 .left) .clean-long),
+      (pairs .holds, pairs .count, known _ _ _ _ (told (chain none)) (none .if1 .left) .clean-long),
     )
 
 returns-2 : tie.Need-returns-2
@@ -112,7 +112,6 @@ mend-spec =
     array-share-prefix-given
     slice-aggregate-put-word
     put-word-requires
-    (λ c. search needs)
     put-clean-requires
     (λ c. search needs)
     (λ c. search needs)

@@ -1,7 +1,7 @@
 -- The three parts are the clean sheet (`clean-put`). It is no longer than the sheet given, so there is room.
 use native.Mathlib.Omega.{arith}
 use borrow.Author.Needs.{needs}
-use Rattle.mending.proofs.Keeping.{kept-most, pairs-room, clean-put}
+use Rattle.mending.proofs.Keeping.{kept-events, kept-most, pairs-room, clean-put}
 use Rattle.mending.proofs.clean.put_clean.Statement.{statement}
 use Rattle.mending.proofs.clean.put_clean.Tie as tie
 
@@ -25,7 +25,11 @@ put-kept-requires c κs =
     let laid = start .pre .0 in
     let first = table-of part .put-table .ensures in
     let second = part .put-part .ensures .0 in
-    (laid, (start .pre .1 .0, pairs-room _ _ laid _ _ _ (first .1) (second .1) (omega (arith, second .0 .size, first .0 .size, start .pre .1 .2))))
+    let known = start .pre .1 in
+    let events = kept-events _ _ laid _ _ (known .0) _ (known .1) in (
+      (omega (arith, known .1, kept-most _ (laid .0)), events .0, events .1),
+      pairs-room _ _ laid _ _ _ (first .1) (second .1) (omega (arith, second .0 .size, first .0 .size, known .2)) _ (known .1),
+    )
 
 abbrev layout-of : tie.After-put-part → tie.After-lay-out
 layout-of c = let table = table-of c in search
@@ -43,7 +47,10 @@ returns c =
     (start .pre .0)
     _
     _
+    _
+    _
     (start .pre .1 .1)
+    (start .pre .1 .0)
     (layout .lay-out .ensures .0)
     (table .put-table .ensures .0)
     (part .put-part .ensures .0 .0)

@@ -1,42 +1,48 @@
--- The invariant: the kept pairs so far are put (`Putting`).
-use Prim.Native.Nat.{_-_}
+-- The invariant: the first k pairs of the rows are put (`Putting`).
+use Prim.Native.Nat.{_-_, _<_}
 use native.Mathlib.Omega.{arith}
 use borrow.Author.Needs.{needs}
-use Rattle.sheet.specs.Table.{pairsOf}
+use denote.Ref.{now}
+use lib.ListN.{getD}
+use Rattle.ids.specs.Limits.{mostEvents, mostPairs}
 use Rattle.text.specs.Putting.{Putting, each-start, each-more, each-done}
-use Rattle.mending.specs.Clean.{keptBytes}
+use Rattle.mending.specs.PairsKnown.{rowsBytes}
 use Rattle.mending.proofs.clean.put_kept.Statement.{statement}
 use Rattle.mending.proofs.clean.put_kept.Tie as tie
 
 abbrev Inv-loop : tie.InvT-loop
-Inv-loop s l reasons clean₀ at end₀ i₀ i-end clean end i = Putting clean₀ clean at (keptBytes s) 4 (pairsOf s) i end
+Inv-loop kept from to clean₀ at end₀ k₀ clean end k = Putting clean₀ clean at (rowsBytes from to) 4 kept k end
 
 abbrev μ-loop : tie.MeasureT-loop
-μ-loop s l reasons clean₀ at end₀ i₀ i-end clean end i = l .pairs - i
+μ-loop kept from to clean₀ at end₀ k₀ clean end k = kept - k
 
-put-if-kept-requires : tie.Need-put-if-kept-requires Inv-loop μ-loop
-put-if-kept-requires c κs =
-    let start : tie.Start Inv-loop μ-loop = search in
-    let at-loop : tie.At-loop Inv-loop μ-loop = search in
-    let in-loop : tie.In-loop Inv-loop μ-loop = search in
-    let known = start .pre in
-    let so-far = at-loop .loop .inv in
-    let below = in-loop .loop-test .taken in
-    (known .0, (below, known .1 .0 .reasons _ (omega (arith, below, known .0 .1 .pairs)), omega (arith, below, so-far .room, so-far .put .size, known .1 .1)))
+abbrev start : tie.In-loop Inv-loop μ-loop → tie.Start Inv-loop μ-loop
+start c = search
+
+below : (c : tie.In-loop Inv-loop μ-loop) → c .before .loop .k < mostPairs
+below c = omega (arith, c .loop-test .taken, start c .pre .0 .0)
+
+-- its ends are events
+ends : (c : tie.In-loop Inv-loop μ-loop)
+    → (getD (now (start c .args .from)) (c .before .loop .k) 0 < mostEvents) × (getD (now (start c .args .to)) (c .before .loop .k) 0 < mostEvents)
+ends c = (start c .pre .0 .1 _ (c .loop-test .taken), start c .pre .0 .2 _ (c .loop-test .taken))
+
+put-pair-requires : tie.Need-put-pair-requires Inv-loop μ-loop
+put-pair-requires c κs =
+    let turn : tie.In-loop Inv-loop μ-loop = search in
+    let so-far = turn .before .loop .inv in
+    (omega (arith, turn .loop-test .taken, so-far .room, so-far .put .size, start turn .pre .1), (omega (arith, ends turn), omega (arith, ends turn)))
 
 loop-again : tie.Need-loop-again Inv-loop μ-loop
 loop-again c =
-    let start : tie.Start Inv-loop μ-loop = search in
-    let at-loop : tie.At-loop Inv-loop μ-loop = search in
-    let in-loop : tie.In-loop Inv-loop μ-loop = search in
-    let put : tie.After-put-if-kept Inv-loop μ-loop = search in
-    each-more (at-loop .loop .inv) (omega (arith, in-loop .loop-test .taken, start .pre .0 .1 .pairs)) (put .put-if-kept .ensures .0) (put .put-if-kept .ensures .1)
+    let turn : tie.In-loop Inv-loop μ-loop = search in
+    let put : tie.After-put-pair Inv-loop μ-loop = search in
+    each-more (turn .before .loop .inv) (turn .loop-test .taken) (put .put-pair .ensures .0) (omega (arith, put .put-pair .ensures .1))
 
 returns : tie.Need-returns Inv-loop μ-loop
 returns c =
-    let start : tie.Start Inv-loop μ-loop = search in
     let left : tie.After-loop Inv-loop μ-loop = search in
-    each-done (left .before .loop .inv) (omega (arith, left .loop-test .left, start .pre .0 .1 .pairs))
+    each-done (left .before .loop .inv) (omega (arith, left .loop-test .left))
 
 pub put-kept-spec : {M : Type 1} → statement M
 put-kept-spec =
@@ -45,8 +51,11 @@ put-kept-spec =
     Inv-loop
     μ-loop
     (λ c. each-start (omega arith))
-    (λ c. let start : tie.Start Inv-loop μ-loop = search in omega (arith, start .pre .1 .0 .room, start .pre .0 .1 .pairs))
-    put-if-kept-requires
+    (λ c. omega (arith, below (search)))
+    (λ c. omega (arith, ends (search) .0))
+    (λ c. omega (arith, below (search)))
+    (λ c. omega (arith, ends (search) .1))
+    put-pair-requires
     (λ c. search needs)
     (λ c. search needs)
     loop-again
