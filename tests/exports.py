@@ -107,6 +107,16 @@ def limits():
         ("a cycle closed by the last one", None, close[:1023] + [(255, 0)]),
         ("a cycle, each pair twice", None, each_twice(chain + [(255, 0)]) + [(0, 1)] * 512),
         ("a cycle by one pair and its repeats", None, chain + [(255, 0)] * 769),
+        ("a cycle of the last two events, after a chain", None, chain[:254] + [(255, 254)] + [(254, 255)] * 769),
+        ("a cycle of the first two events, before a chain", None, [(1, 0)] + chain + [(9, 9)] * 768),
+        ("a cycle through all events, backwards", None, [(v, (v + 255) % 256) for v in range(256)] * 4),
+        ("a chain, backwards, each pair four times", 255, [(v + 1, v) for v in range(255)] * 4 + [(0, 0)] * 4),
+        ("a chain, its pairs from the last to the first", 255, chain[::-1] + [(256, 0)] * 769),
+        ("254 events before the last one", 254, [(v, 255) for v in range(254)] + [(255, 255)] * 770),
+        ("all events before the last one, and that before the first", None, [(v, 255) for v in range(255)] + [(255, 0)] * 769),
+        ("the last event before 254 others", 254, [(255, v) for v in range(254)] + [(3, 256)] * 770),
+        ("the last event before all others, and one of them before it", None, [(255, v) for v in range(255)] + [(254, 255)] * 769),
+        ("128 cycles of two", None, [(v, v ^ 1) for v in range(256)] * 4),
     ):
         yield "1,024 pairs, " + name, kept, many(pairs)
 

@@ -37,14 +37,16 @@ def item_lengths(places):
 
 
 def has_cycle(events, pairs):
-    """Takes events away that nothing left is before; what can't be taken away is on a cycle or after one."""
-    left, order = set(range(events)), set(pairs)
-    while True:
-        free = left - {b for a, b in order}
-        if not free:
-            return bool(left)
-        left -= free
-        order = {(a, b) for a, b in order if a in left}
+    """Whether some event comes back to itself along pairs. From each event on, what is after it is looked up, step by step."""
+    after = {v: {b for a, b in pairs if a == v} for v in range(events)}
+    for start in range(events):
+        met, edge = set(), after[start]
+        while edge:
+            met |= edge
+            edge = set().union(*(after[v] for v in edge)) - met
+        if start in met:
+            return True
+    return False
 
 
 def first_at_fault(kinds):
