@@ -86,12 +86,12 @@ int main(int count, char **words)
         judge_kind(&kinds[k], sheets, &summary);
     }
     print_listing(sheets, summary.listing_missed);
-    int mending_missed = print_mending(sheets);
+    struct mending_bar mending = print_mending(sheets);
     summary.differ += print_growth(sheets < 5 ? sheets : 5);
 
     printf("\n%u sheets of these kinds, and those of the growth; judged differently: %u\n", summary.sheets, summary.differ);
     int missed = print_bar(&summary);
     missed |= print_listing_bar(summary.listing_missed);
-    print_mending_bar(mending_missed);
-    return summary.differ > 0 || missed || mending_missed;
+    print_mending_bar(&mending);
+    return summary.differ > 0 || missed || mending.missed;
 }

@@ -37,8 +37,8 @@ static double print_median_and_worst(double *ratios, unsigned count)
     return ratios[count - 1];
 }
 
-// Returns the worst ratio to the fault call on the clean sheet.
-static double mend_all(enum mess mess, unsigned sheets)
+// Adds the sheets of all kinds to what is known of the bar.
+static void mend_all(struct mending_bar *bar, enum mess mess, unsigned sheets)
 {
     static struct ratios ratios;
 
@@ -47,30 +47,36 @@ static double mend_all(enum mess mess, unsigned sheets)
         if (kinds[k].group != FEW_PAIRS)
             add_kind(&ratios, &kinds[k], mess, sheets);
     printf("%-24s  ", mess_names[mess]);
-    double worst = print_median_and_worst(ratios.clean, ratios.count);
-    print_median_and_worst(ratios.given, ratios.count);
+    bar->missed |= print_median_and_worst(ratios.clean, ratios.count) > BAR;
+    double worst = print_median_and_worst(ratios.given, ratios.count);
     print_median_and_worst(ratios.faultless, ratios.count);
     printf("\n");
-    return worst;
+    bar->worst = worst > bar->worst ? worst : bar->worst;
+    bar->sheets += ratios.count;
+    for (unsigned i = 0; i < ratios.count; i++)
+        bar->over += ratios.given[i] > BAR;
 }
 
-int print_mending(unsigned sheets)
+struct mending_bar print_mending(unsigned sheets)
 {
-    int missed = 0;
+    struct mending_bar bar = {0};
 
     if (!archive_present())
-        return 0;
+        return bar;
     printf("\nMending: its time over that of judging faults, of the clean sheet, of the sheet given, whose first fault ends that, and of the\n"
            "faultless sheet that it was made of; all kinds at the limits\n");
     printf("%-24s   %-17s %-17s %s\n", "pairs", "clean", "given", "faultless");
     printf("%-24s   %-8s %-8s %-8s %-8s %-8s %-8s\n", "", "median", "worst", "median", "worst", "median", "worst");
     for (int mess = 0; mess < MESSES; mess++)
-        missed |= mend_all(mess, sheets) > BAR;
-    return missed;
+        mend_all(&bar, mess, sheets);
+    return bar;
 }
 
-void print_mending_bar(int missed)
+void print_mending_bar(const struct mending_bar *bar)
 {
     printf("Mending: on sheets at the limits at most %d times judging the faults of the clean sheet.\n", BAR);
-    printf("%s\n", !archive_present() ? "not tried: it needs the archive" : missed ? "missed" : "met");
+    printf("%s\n", !archive_present() ? "not tried: it needs the archive" : bar->missed ? "missed" : "met");
+    if (archive_present())
+        printf("Over judging those of the sheet given it takes more than %d times as long on %u of %u sheets, at worst %.2f times.\n", BAR, bar->over,
+               bar->sheets, bar->worst);
 }
