@@ -20,7 +20,8 @@ use Rattle.theory.specs.Skeleton.{before-earlier, before-later, last-link}
 use Rattle.marks.specs.Marks.{marked}
 use Rattle.last_mark.specs.Found.{Both}
 use Rattle.fold.specs.Carried.{Carried, carried-none, carried-more}
-use Rattle.skeleton.specs.Linked.{numberOf, IsLink}
+use Rattle.skeleton.specs.Linked.{IsLink}
+use Rattle.skeleton.specs.Lists.{Lists}
 use Rattle.fold.specs.Walkable.{Walkable, StepBack}
 use Rattle.fold.specs.Written.{numbersOf, raisedBy}
 
@@ -34,13 +35,13 @@ module _ {P : Plan} {succ skel index : List ℕ} (way : Walkable P succ skel ind
 
   module _ {u cur : ℕ} (b : Before P u cur) where
     -- u itself is one pair back
-    pub step-here : marked skel cur u ≡ true → StepBack P index u cur u
+    pub step-here : marked skel cur u ≡ true → StepBack P u cur u
     step-here t =
         let e = ends u cur b in
         record { link = way .linked .links u cur (e .0) (e .1) (passes (marked skel cur u) t); onward = inl refl }
 
     -- or some event after u is
-    pub step-there : (v : ℕ) → Both skel cur succ u v → StepBack P index u cur v
+    pub step-there : (v : ℕ) → Both skel cur succ u v → StepBack P u cur v
     step-there v both =
         let e = ends u cur b in
         let event = way .after .only u v (both .below) (both .second) in
@@ -67,7 +68,7 @@ module _ {P : Plan} {succ skel index : List ℕ} (way : Walkable P succ skel ind
 unfoldable pub steps : List ℕ → ℕ → ℕ → ℕ
 steps succ u cur = sum mostEvents (λ z. on (marked succ u z && (eqb z cur || marked succ z cur)) 1)
 
-module _ {P : Plan} {succ skel index : List ℕ} (way : Walkable P succ skel index) {u cur v : ℕ} (b : Before P u cur) (s : StepBack P index u cur v) where
+module _ {P : Plan} {succ skel index : List ℕ} (way : Walkable P succ skel index) {u cur v : ℕ} (b : Before P u cur) (s : StepBack P u cur v) where
   onWay : ℕ → ℕ → Bool
   onWay x z = marked succ u z && (eqb z x || marked succ z x)
 
@@ -111,7 +112,7 @@ module _ {P : Plan} {succ skel index : List ℕ} (way : Walkable P succ skel ind
       ))
     where
       back : Before P v cur
-      back = link-before way v cur (numberOf index v cur) (s .link)
+      back = link-before way v cur (s .link .0) (s .link .1)
 
       nearer : {z : ℕ} → (z ≡ v) ⊎ Before P z v → Before P z cur
       nearer = ⊎-elim (λ e. subst (λ (y : ℕ). Before P y cur) (sym e) back) (λ d. chain d back)
@@ -153,41 +154,48 @@ module _ {succ skel index row₀ row : List ℕ} {u cur w k : ℕ} (g : Walking 
       pub walk-step : (P : Plan) × (at : List ℕ) × Walkable P succ skel at × Before P u cur
       walk-step = (some .0, index, some .1, here)
 
-      module _ {v : ℕ} (back : (P : Plan) (at : List ℕ) → Walkable P succ skel at → Before P u cur → StepBack P at u cur v) where
-        step : StepBack (some .0) index u cur v
+      module _ {v : ℕ} (back : (P : Plan) (at : List ℕ) → Walkable P succ skel at → Before P u cur → StepBack P u cur v) where
+        step : StepBack (some .0) u cur v
         step = back (some .0) index (some .1) here
 
         pub walk-fewer : steps succ u v < steps succ u cur
         walk-fewer = fewer (some .1) here step
 
-        -- the pair has a number in the row,
-        pub walk-named : numberOf index v cur < length row
-        walk-named = omega (arith, step .link .named, some .3, g .size)
+        -- some plan has the pair,
+        pub walk-link : (P : Plan) × Lists P (P .pairs) index × (i : ℕ) × IsLink P (P .pairs) v cur i
+        walk-link = (some .0, some .1 .linked .lists, step .link .0, step .link .1)
 
-        -- which has not been on the way, and so has room
-        pub walk-room : ((i : ℕ) → i < length row₀ → getD row₀ i 0 + k < 4294967296) → getD row (numberOf index v cur) 0 + k < 4294967296
-        walk-room room =
-            omega (
-              arith,
-              room (numberOf index v cur) (omega (arith, walk-named, g .size)),
-              g .walk (some .0) (some .1) (some .2) .carried .fresh (numberOf index v cur) (step .link .named) (inl (step .link .ends)),
-            )
+        module _ {i : ℕ} (found : (P : Plan) → Lists P (P .pairs) index → IsLink P (P .pairs) v cur i) where
+          at-link : IsLink (some .0) (some .0 .pairs) v cur i
+          at-link = found (some .0) (some .1 .linked .lists)
 
-        pub walk-more : (row′ : List ℕ) → row′ ≡ raisedBy row (numberOf index v cur) k → Walking succ skel index row₀ row′ u v w k
-        walk-more row′ e =
-            rw
-            e
-            (record {
-              size = simp length-set (g .size);
-              walk = λ P way b.
-                  let s = back P index way (on-way P way b) in
-                  let link = s .link in
-                  record {
-                    carried =
-                        subst
-                        (λ (x : ℕ). Carried P (numbersOf row₀) (numbersOf (raisedBy row (numberOf index v cur) k)) x w k)
-                        (link .starts)
-                        (carried-more P (way .sound) _ _ _ cur w k _ (link .named) (link .bare) (link .ends) (λ j l. raised-at row _ k walk-named j) (g .walk P way b .carried));
-                    onward = s .onward;
-                  };
-            })
+          -- which has a number in the row,
+          pub walk-named : i < length row
+          walk-named = omega (arith, at-link .named, some .3, g .size)
+
+          -- has not been on the way, and so has room
+          pub walk-room : ((i : ℕ) → i < length row₀ → getD row₀ i 0 + k < 4294967296) → getD row i 0 + k < 4294967296
+          walk-room room =
+              omega (
+                arith,
+                room i (omega (arith, walk-named, g .size)),
+                g .walk (some .0) (some .1) (some .2) .carried .fresh i (at-link .named) (inl (at-link .ends)),
+              )
+
+          pub walk-more : (row′ : List ℕ) → row′ ≡ raisedBy row i k → Walking succ skel index row₀ row′ u v w k
+          walk-more row′ e =
+              rw
+              e
+              (record {
+                size = simp length-set (g .size);
+                walk = λ P way b.
+                    let link = found P (way .linked .lists) in
+                    record {
+                      carried =
+                          subst
+                          (λ (x : ℕ). Carried P (numbersOf row₀) (numbersOf (raisedBy row i k)) x w k)
+                          (link .starts)
+                          (carried-more P (way .sound) _ _ _ cur w k _ (link .named) (link .bare) (link .ends) (λ j l. raised-at row _ k walk-named j) (g .walk P way b .carried));
+                      onward = back P index way (on-way P way b) .onward;
+                    };
+              })

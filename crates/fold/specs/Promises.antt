@@ -22,7 +22,7 @@ MayStep succ skel u cur = (P : Plan) × (index : List ℕ) × Walkable P (now su
 
 abbrev pub SteppedBack : Lent → Lent → ℕ → ℕ → ℕ → Type 0
 SteppedBack succ skel u cur v =
-    (P : Plan) (index : List ℕ) → Walkable P (was succ) (was skel) index → Before P u cur → StepBack P index u cur v
+    (P : Plan) (index : List ℕ) → Walkable P (was succ) (was skel) index → Before P u cur → StepBack P u cur v
 
 -- k tokens carried from u to w
 abbrev pub MayTrace : Held → Held → Held → Held → ℕ → ℕ → Type 0

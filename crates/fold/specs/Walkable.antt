@@ -7,7 +7,7 @@ use Rattle.ids.specs.Limits.{mostEvents}
 use Rattle.plan.specs.Net.{Plan}
 use Rattle.plan.specs.Order.{Before, Sound}
 use Rattle.closure.specs.PlanRows.{Successors}
-use Rattle.skeleton.specs.Linked.{numberOf, IsLink, Linked}
+use Rattle.skeleton.specs.Linked.{IsLink, Linked}
 
 -- Rows for a way back along skeleton pairs: row u of `succ` marks what is after u.
 pub record Walkable (P : Plan) (succ skel index : List ℕ) : Type 0 where
@@ -17,6 +17,6 @@ pub record Walkable (P : Plan) (succ skel index : List ℕ) : Type 0 where
   pub linked : Linked P (P .pairs) skel index
 
 -- v is one skeleton pair back from cur, and is u or after it
-pub record StepBack (P : Plan) (index : List ℕ) (u cur v : ℕ) : Type 0 where
-  pub link : IsLink P (P .pairs) v cur (numberOf index v cur)
+pub record StepBack (P : Plan) (u cur v : ℕ) : Type 0 where
+  pub link : (i : ℕ) × IsLink P (P .pairs) v cur i
   pub onward : (v ≡ u) ⊎ Before P u v

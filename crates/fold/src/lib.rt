@@ -6,7 +6,6 @@ ghost use mathlib.Core.Path.{_≡_};
 ghost use lib.ListN.{length, getD};
 ghost use Rattle.ids.specs.Lent.{was, is};
 ghost use Rattle.ids.specs.Limits.{mostEvents};
-ghost use Rattle.skeleton.specs.Linked.{numberOf};
 ghost use Rattle.fold.specs.Promises.{MayStep, SteppedBack, MayTrace, Traced, Spacious, MayFold, AllFolded, MayFoldGiver, GiverFolded};
 ghost use Rattle.fold.specs.Written.{raisedBy, Zeros, SharesFrom};
 use filling::put_words;
@@ -14,10 +13,11 @@ use filling::write_shares;
 use ids::EVENTS;
 use ids::Event;
 use ids::ROWS;
-use ids::SQUARE;
 use last_mark::Found;
 use last_mark::last_common;
 use marks::is_marked;
+use skeleton::INDEX;
+use skeleton::pair_number;
 
 // One skeleton pair back from `cur` toward u, which is before it.
 fn step_back(succ: &[u32; ROWS], skel: &[u32; ROWS], u: Event, cur: Event) -> Event
@@ -35,15 +35,12 @@ fn step_back(succ: &[u32; ROWS], skel: &[u32; ROWS], u: Event, cur: Event) -> Ev
     Event(v)
 }
 
-// Puts k more on the skeleton pair from v to w.
-fn carry(index: &[usize; SQUARE], row: &mut [u32], v: Event, w: Event, k: u32)
-    requires { ⌜ (v .0 < mostEvents) × (w .0 < mostEvents) ⌝ }
-    requires { ⌜ numberOf (now index) (v .0) (w .0) < length (now row) ⌝ }
-    requires { ⌜ getD (now row) (numberOf (now index) (v .0) (w .0)) 0 + k < 4294967296 ⌝ }
-    ensures { λ _. ⌜ is row ≡ raisedBy (was row) (numberOf (was index) (v .0) (w .0)) k ⌝ }
+// Puts k more on pair i.
+fn carry(row: &mut [u32], i: usize, k: u32)
+    requires { ⌜ i < length (now row) ⌝ }
+    requires { ⌜ getD (now row) i 0 + k < 4294967296 ⌝ }
+    ensures { λ _. ⌜ is row ≡ raisedBy (was row) i k ⌝ }
 {
-    let at = v.0 * EVENTS + w.0;
-    let i = index[at];
     row[i] += k;
 }
 
@@ -51,7 +48,7 @@ fn carry(index: &[usize; SQUARE], row: &mut [u32], v: Event, w: Event, k: u32)
 fn trace(
     succ: &[u32; ROWS],
     skel: &[u32; ROWS],
-    index: &[usize; SQUARE],
+    index: &[u16; INDEX],
     row: &mut [u32],
     u: Event,
     w: Event,
@@ -65,7 +62,8 @@ fn trace(
     let mut cur = w;
     while cur.0 != u.0 {
         let v = step_back(succ, skel, u, cur);
-        carry(index, row, v, cur, k);
+        let i = pair_number(index, v, cur);
+        carry(row, i, k);
         cur = v;
     }
 }
@@ -84,7 +82,7 @@ fn tokens(amount: &[u32], u: Event, w: Event) -> u32
 fn fold_giver(
     succ: &[u32; ROWS],
     skel: &[u32; ROWS],
-    index: &[usize; SQUARE],
+    index: &[u16; INDEX],
     amount: &[u32],
     fed: &[u32; ROWS],
     row: &mut [u32],
@@ -107,7 +105,7 @@ fn fold_giver(
 fn fold_givers(
     succ: &[u32; ROWS],
     skel: &[u32; ROWS],
-    index: &[usize; SQUARE],
+    index: &[u16; INDEX],
     amount: &[u32],
     fed: &[u32; ROWS],
     row: &mut [u32],
@@ -127,7 +125,7 @@ fn fold_givers(
 fn fold(
     succ: &[u32; ROWS],
     skel: &[u32; ROWS],
-    index: &[usize; SQUARE],
+    index: &[u16; INDEX],
     amount: &[u32],
     fed: &[u32; ROWS],
     row: &mut [u32],
@@ -144,7 +142,7 @@ fn fold(
 pub fn write_flow(
     succ: &[u32; ROWS],
     skel: &[u32; ROWS],
-    index: &[usize; SQUARE],
+    index: &[u16; INDEX],
     amount: &[u32],
     fed: &[u32; ROWS],
     share: &[u32; EVENTS],

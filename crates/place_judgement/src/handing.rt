@@ -14,8 +14,8 @@ use fold::write_flow;
 use ids::EVENTS;
 use ids::Place;
 use ids::ROWS;
-use ids::SQUARE;
 use layout::Layout;
+use skeleton::INDEX;
 use skeleton::index_pairs;
 
 // Writes the tokenflow of a place that lacks nothing as a flow row, by way of the skeleton pairs.
@@ -40,7 +40,7 @@ fn hand_over(
     ensures { λ _. ⌜ SharesFrom (l .pairs) (was flow) (is flow) (was share) (l .events) ⌝ }
 {
     let mut skel = [0u32; ROWS];
-    let mut index = [0usize; SQUARE];
+    let mut index = [0u16; INDEX];
     index_pairs(s, l, succ, pred, &mut skel, &mut index);
     let pairs = l.pairs;
     let n = l.events;

@@ -1,1 +1,3 @@
 mod Links
+mod Listing
+mod Seeking

@@ -2,7 +2,7 @@
 use Prim.Native.Nat.{_<_}
 use borrow.Author.Needs.{needs}
 use Rattle.ids.specs.Limits.{mostEvents}
-use Rattle.fold.proofs.Walks.{steps, Walking, walk-start, walk-done, walk-step, walk-fewer, walk-named, walk-room, walk-more}
+use Rattle.fold.proofs.Walks.{steps, Walking, walk-start, walk-done, walk-step, walk-fewer, walk-link, walk-named, walk-room, walk-more}
 use Rattle.fold.proofs.trace.Statement.{statement}
 use Rattle.fold.proofs.trace.Tie as tie
 
@@ -22,15 +22,24 @@ step-back-requires c κs =
     let at-loop : tie.At-loop Inv-loop μ-loop = search in
     (search needs, walk-step (at-loop .loop .inv .1) (c .if1 .taken) (start .pre .1 .0))
 
+pair-number-requires : tie.Need-pair-number-requires Inv-loop μ-loop
+pair-number-requires c κs =
+    let start : tie.Start Inv-loop μ-loop = search in
+    let at-loop : tie.At-loop Inv-loop μ-loop = search in
+    let step : tie.After-step-back Inv-loop μ-loop = search in
+    (search needs, walk-link (at-loop .loop .inv .1) (step .before .if1 .taken) (start .pre .1 .0) (step .step-back .ensures .1))
+
 carry-requires : tie.Need-carry-requires Inv-loop μ-loop
 carry-requires c κs =
     let start : tie.Start Inv-loop μ-loop = search in
     let at-loop : tie.At-loop Inv-loop μ-loop = search in
     let step : tie.After-step-back Inv-loop μ-loop = search in
+    let pair : tie.After-pair-number Inv-loop μ-loop = search in
     let walk = at-loop .loop .inv .1 in
     let apart = step .before .if1 .taken in
     let back = step .step-back .ensures .1 in
-    (search needs, (walk-named walk apart (start .pre .1 .0) back, walk-room walk apart (start .pre .1 .0) back (start .pre .1 .1)))
+    let found = pair .pair-number .ensures in
+    (walk-named walk apart (start .pre .1 .0) back found, walk-room walk apart (start .pre .1 .0) back found (start .pre .1 .1))
 
 loop-less : tie.Need-loop-less Inv-loop μ-loop
 loop-less c =
@@ -44,9 +53,11 @@ loop-again c =
     let start : tie.Start Inv-loop μ-loop = search in
     let at-loop : tie.At-loop Inv-loop μ-loop = search in
     let step : tie.After-step-back Inv-loop μ-loop = search in
-    let carried : tie.After-carry Inv-loop μ-loop = search in (
+    let pair : tie.After-pair-number Inv-loop μ-loop = search in
+    let carried : tie.After-carry Inv-loop μ-loop = search in
+    let found = pair .pair-number .ensures in (
       search needs,
-      walk-more (at-loop .loop .inv .1) (step .before .if1 .taken) (start .pre .1 .0) (step .step-back .ensures .1) _ (carried .carry .ensures),
+      walk-more (at-loop .loop .inv .1) (step .before .if1 .taken) (start .pre .1 .0) (step .step-back .ensures .1) found _ (carried .carry .ensures),
     )
 
 returns : tie.Need-returns Inv-loop μ-loop
@@ -60,6 +71,7 @@ trace-spec =
     μ-loop
     loop-holds
     step-back-requires
+    pair-number-requires
     carry-requires
     loop-less
     loop-again

@@ -1,4 +1,4 @@
--- The invariant: the skeleton pairs among the first i are marked and numbered.
+-- The invariant: the skeleton pairs among the first i are marked and listed.
 use Prim.Native.Nat.{_-_, _≤_, _<_}
 use native.Mathlib.Omega.{arith}
 use mathlib.Core.Logic.{⊎-elim}
@@ -17,7 +17,7 @@ abbrev μ-loop : tie.MeasureT-loop
 μ-loop s l succ pred skel₀ index₀ i₀ i-end skel index i = l .pairs - i
 
 loop-holds : tie.Need-loop-holds Inv-loop μ-loop
-loop-holds c = (search needs, links-none _ _ _ _ (omega arith) (search needs))
+loop-holds c = (search needs, links-none _ _ _ _ (omega arith) (search needs) (search needs))
 
 -- both ends of the pair are events
 ends : (c : tie.After-later Inv-loop μ-loop) → (c .before .earlier .result .0 < mostEvents) × (c .later .result .0 < mostEvents)
@@ -28,8 +28,11 @@ ends c =
 mark-requires : tie.Need-mark-requires Inv-loop μ-loop
 mark-requires c κs = let pair : tie.After-later Inv-loop μ-loop = search in omega (arith, ends pair)
 
-number-requires : tie.Need-number-requires Inv-loop μ-loop
-number-requires c κs = let pair : tie.After-later Inv-loop μ-loop = search in omega (arith, ends pair)
+list-pair-requires : tie.Need-list-pair-requires Inv-loop μ-loop
+list-pair-requires c κs =
+    let start : tie.Start Inv-loop μ-loop = search in
+    let pair : tie.After-later Inv-loop μ-loop = search in
+    omega (arith, ends pair, start .pre .0 .0 .laid .limited .pairs)
 
 loop-again : tie.Need-loop-again Inv-loop μ-loop
 loop-again c =
@@ -63,7 +66,7 @@ index-pairs-spec =
     (λ c κs. search needs)
     (λ c κs. omega (arith, ends c))
     mark-requires
-    number-requires
+    list-pair-requires
     (λ c. search needs)
     (λ c. search needs)
     loop-again
