@@ -1,10 +1,10 @@
 -- Pair after pair: each skeleton pair is listed at the event where it ends.
-use Prim.Native.Nat.{ℕ, _+_, _≤_, _<_}
+use Prim.Native.Nat.{ℕ, _+_, _<_}
 use native.Mathlib.Omega.{arith}
 use mathlib.Core.Bool.{true, false}
 use mathlib.Core.List.{List}
 use mathlib.Core.Logic.{⊎-elim}
-use mathlib.Core.Path.{_≡_, sym, ap, subst, _∙_}
+use mathlib.Core.Path.{_≡_, sym, subst, _∙_}
 use denote.Floats.{passes}
 use lib.Dec.{T, eqb, eqb→eq, eqb-refl}
 use lib.ListN.{getD}
@@ -22,7 +22,7 @@ use Rattle.skeleton.specs.Lists.{indexSize, linkAt, startAt, Unlisted, P
 -- the three stores
 pub pair-listed : {old linked started new : List ℕ} {a b i : ℕ} → b < mostEvents → i < mostPairs
     → Stored old linked (linkAt i) (getD old b 0) → Stored linked started (startAt i) a → Stored started new b (i + 1) → PairListed old new a b i
-pair-listed {old} {linked} {started} {new} {a} {b} {i} event few link start head =
+pair-listed {i = i} event few link start head =
     record {
       head = head .here;
       link = head .others (linkAt i) (λ e. omega arith) ∙ start .others (linkAt i) (λ e. omega arith) ∙ link .here;
