@@ -1,7 +1,7 @@
 -- The invariant: where pair i₀ is in the list that is searched, i is too, and the pair that is sought is i or is listed before it.
 use Prim.Native.Nat.{ℕ}
 use native.Mathlib.Omega.{arith}
-use mathlib.Core.Path.{_≡_, sym, _∙_}
+use mathlib.Core.Path.{_≡_}
 use borrow.Author.Needs.{needs}
 use denote.Ref.{now}
 use lib.ListN.{getD}
@@ -41,7 +41,7 @@ link-within c κs = omega (arith, seek-few (seeking (search)))
 
 -- it starts elsewhere
 other : (c : tie.Then1 Inv-loop μ-loop) → ¬ (getD (now (start (loop-of c) .args .index)) (startAt (loop-of c .loop .i)) 0 ≡ start (loop-of c) .args .a .0)
-other c = let read : tie.After-entry2 Inv-loop μ-loop = search in λ e. c .if1 .taken (read .entry2 .ensures ∙ e)
+other c = let read : tie.After-entry2 Inv-loop μ-loop = search in λ e. omega (arith, c .if1 .taken, read .entry2 .ensures)
 
 more : tie.Need-sub-i-2 Inv-loop μ-loop
 more c = omega (arith, c .entry3 .ensures, seek-more (seeking (search)) (other (search)))
@@ -57,7 +57,7 @@ loop-again c =
 returns : tie.Need-returns Inv-loop μ-loop
 returns c =
     let read : tie.After-entry2 Inv-loop μ-loop = search in
-    seek-end (seeking (search)) (sym (read .entry2 .ensures) ∙ c .if1 .left)
+    seek-end (seeking (search)) (omega (arith, c .if1 .left, read .entry2 .ensures))
 
 pub pair-number-spec : {M : Type 1} → statement M
 pair-number-spec =
