@@ -20,10 +20,6 @@ rowWords = 8
 abbrev pub rowsWords : ℕ
 rowsWords = 2048
 
--- a number for each two events
-abbrev pub square : ℕ
-square = 65536
-
 -- a number for each pair, then one for each event
 abbrev pub mostFlow : ℕ
 mostFlow = 1280
