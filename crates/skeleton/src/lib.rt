@@ -60,6 +60,7 @@ pub fn index_pairs(
     }
 }
 
+// A parameter is known to fit its type, where an element of a row is not.
 fn wide(x: u16) -> usize
     ensures { λ r. ⌜ r ≡ x ⌝ }
 {
