@@ -20,6 +20,13 @@ rowWords = 8
 abbrev pub rowsWords : ℕ
 rowsWords = 2048
 
+-- the most events of a small and of a middling plan
+abbrev pub smallPlan : ℕ
+smallPlan = 16
+
+abbrev pub middlePlan : ℕ
+middlePlan = 64
+
 -- a number for each pair, then one for each event
 abbrev pub mostFlow : ℕ
 mostFlow = 1280

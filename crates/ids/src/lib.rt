@@ -26,5 +26,14 @@ pub const ROWS: usize = EVENTS * WORDS;
 // A number for each two events.
 pub const SQUARE: usize = EVENTS * EVENTS;
 
+// The most events of a small and of a middling plan, and a number for each event of such a plan and any event.
+pub const SMALL: usize = 16;
+
+pub const MIDDLE: usize = 64;
+
+pub const SMALL_SQUARE: usize = SMALL * EVENTS;
+
+pub const MIDDLE_SQUARE: usize = MIDDLE * EVENTS;
+
 // A number for each pair, then one for each event.
 pub const FLOW: usize = PAIRS + EVENTS;

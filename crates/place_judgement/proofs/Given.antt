@@ -1,12 +1,11 @@
 -- What a settled place hands over, where it runs and where it is short.
-use Prim.Native.Nat.{ℕ, _+_, _*_, _≤_, _<_}
+use Prim.Native.Nat.{ℕ, _+_, _≤_, _<_}
 use native.Mathlib.Omega.{arith}
 use mathlib.Core.Bool.{cond, not, _&&_}
 use mathlib.Core.List.{List}
 use mathlib.Core.Logic.{⊎-elim}
 use mathlib.Core.Path.{_≡_, refl, sym, ap₂, subst, _∙_}
 use borrow.Author.Tests.{le-ltb}
-use lib.ListN.{length, replicate}
 use lib.Dec.{T, ltb, ltb→lt, nltb→le, leb→le}
 use lib.IntN.{ℤ, pos, negsuc, negℤ}
 use lib.Signed.{_≤ℤ_}
@@ -14,7 +13,6 @@ use mir.Syntax.{w32}
 use mir.Val.{SFits}
 use Rattle.finite.specs.Bounded.{decide}
 use Rattle.finite.specs.Filled.{Filled}
-use Rattle.finite.specs.Row.{zeros-room}
 use Rattle.finite.specs.Subset.{Set}
 use Rattle.plan.specs.Net.{Net, Plan}
 use Rattle.plan.specs.Flow.{valid}
@@ -41,13 +39,9 @@ use Rattle.skeleton.specs.Linked.{Linked}
 use Rattle.fold.specs.Written.{numbersOf, SharesFrom, written-valid}
 use Rattle.place_judgement.specs.Handed.{doneMark, validAt, Written}
 
--- the events of a sheet are few enough for a row of words, and for a square of numbers
-module _ (s : List ℕ) (known : Faultless s) (l : Layout) (e : LayoutOf s l) where
-  pub few-events : l .events ≤ 256
-  few-events = omega (arith, e .events, known .laid .limited .events)
-
-  pub square-room : l .events * 256 ≤ length (replicate {A = ℕ} 65536 0)
-  square-room = zeros-room _ 65536 (omega (arith, few-events))
+-- the events of a sheet are few enough for a row of words
+pub few-events : (s : List ℕ) → Faultless s → (l : Layout) → LayoutOf s l → l .events ≤ 256
+few-events s known l e = omega (arith, e .events, known .laid .limited .events)
 
 -- a spare count fits with its sign
 small-spare : (z : ℤ) → negℤ (pos 256000) ≤ℤ z → z ≤ℤ pos 1000000 → SFits w32 z

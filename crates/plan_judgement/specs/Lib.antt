@@ -3,3 +3,4 @@ pub mod Asked
 pub mod First
 pub mod CountsInRow
 pub mod Laws
+pub mod Counting

@@ -7,19 +7,24 @@ ghost use lib.ListN.{length, getD, set};
 ghost use Rattle.closure.specs.PlanRows.{Predecessors};
 ghost use Rattle.finite.specs.Filled.{Filled};
 ghost use Rattle.ids.specs.Lent.{was, is};
-ghost use Rattle.ids.specs.Limits.{mostEvents};
+ghost use Rattle.ids.specs.Limits.{mostEvents, smallPlan, middlePlan};
 ghost use Rattle.layout.specs.Layout.{LayoutOf};
 ghost use Rattle.sheet.specs.Faultless.{Faultless};
 ghost use Rattle.sheet.specs.Items.{planOf, openingAt};
 ghost use Rattle.plan_judgement.specs.Asked.{askedAt};
+ghost use Rattle.plan_judgement.specs.Counting.{Countable, Counted};
 ghost use Rattle.plan_judgement.specs.First.{FirstTo};
 ghost use Rattle.plan_judgement.specs.Judgement.{says, planSays, rowOf};
 use calls::with_row;
 use fault::examine;
 use ids::EVENTS;
+use ids::MIDDLE;
+use ids::MIDDLE_SQUARE;
 use ids::PLACES;
 use ids::Place;
 use ids::ROWS;
+use ids::SMALL;
+use ids::SMALL_SQUARE;
 use ids::SQUARE;
 use ids::WORDS;
 use layout::Layout;
@@ -97,13 +102,9 @@ fn count_places(
     fed: &mut [u32; ROWS],
     row: &mut [u32],
 ) -> First
-    requires { ⌜ Faultless (now s) ⌝ }
-    requires { ⌜ LayoutOf (now s) l ⌝ }
-    requires { ⌜ Predecessors (planOf (now s)) (now pred) ⌝ }
+    requires { ⌜ Countable s l pred row ⌝ }
     requires { ⌜ l .events * mostEvents ≤ length (now amount) ⌝ }
-    requires { ⌜ l .places ≤ length (now row) ⌝ }
-    ensures { λ _. ⌜ Filled (askedAt least (was s)) (l .places) (was row) (is row) ⌝ }
-    ensures { λ r. ⌜ FirstTo (was s) (l .places) r ⌝ }
+    ensures { λ r. ⌜ Counted s l least row r ⌝ }
 {
     let none = [0u32; WORDS];
     let mut first = First {
@@ -116,21 +117,88 @@ fn count_places(
     first
 }
 
-// Counts at each place of a sheet without fault, with the working rows for it: the least opening counts, or only what is missing, which is
-// settled sooner.
-pub fn count_all(s: &[u8], l: Layout, least: bool, pred: &[u32; ROWS], row: &mut [u32]) -> First
-    requires { ⌜ Faultless (now s) ⌝ }
-    requires { ⌜ LayoutOf (now s) l ⌝ }
-    requires { ⌜ Predecessors (planOf (now s)) (now pred) ⌝ }
-    requires { ⌜ l .places ≤ length (now row) ⌝ }
-    ensures { λ _. ⌜ Filled (askedAt least (was s)) (l .places) (was row) (is row) ⌝ }
-    ensures { λ r. ⌜ FirstTo (was s) (l .places) r ⌝ }
+// Counts at each place with the amounts lent, and the other working rows.
+fn count_in(
+    s: &[u8],
+    l: Layout,
+    least: bool,
+    pred: &[u32; ROWS],
+    amount: &mut [u32],
+    row: &mut [u32],
+) -> First
+    requires { ⌜ Countable s l pred row ⌝ }
+    requires { ⌜ l .events * mostEvents ≤ length (now amount) ⌝ }
+    ensures { λ r. ⌜ Counted s l least row r ⌝ }
 {
     let mut order = [0usize; EVENTS];
     event_order(pred, l.events, &mut order);
-    let mut amount = [0u32; SQUARE];
     let mut fed = [0u32; ROWS];
-    count_places(s, l, least, pred, &order, &mut amount, &mut fed, row)
+    count_places(s, l, least, pred, &order, amount, &mut fed, row)
+}
+
+// Counts with the amounts of a small plan.
+fn count_small(s: &[u8], l: Layout, least: bool, pred: &[u32; ROWS], row: &mut [u32]) -> First
+    requires { ⌜ Countable s l pred row ⌝ }
+    requires { ⌜ l .events ≤ smallPlan ⌝ }
+    ensures { λ r. ⌜ Counted s l least row r ⌝ }
+{
+    let mut amount = [0u32; SMALL_SQUARE];
+    count_in(s, l, least, pred, &mut amount, row)
+}
+
+// Counts with the amounts of a middling plan.
+fn count_middle(s: &[u8], l: Layout, least: bool, pred: &[u32; ROWS], row: &mut [u32]) -> First
+    requires { ⌜ Countable s l pred row ⌝ }
+    requires { ⌜ l .events ≤ middlePlan ⌝ }
+    ensures { λ r. ⌜ Counted s l least row r ⌝ }
+{
+    let mut amount = [0u32; MIDDLE_SQUARE];
+    count_in(s, l, least, pred, &mut amount, row)
+}
+
+// Counts with the amounts of any plan.
+fn count_large(s: &[u8], l: Layout, least: bool, pred: &[u32; ROWS], row: &mut [u32]) -> First
+    requires { ⌜ Countable s l pred row ⌝ }
+    requires { ⌜ l .events ≤ mostEvents ⌝ }
+    ensures { λ r. ⌜ Counted s l least row r ⌝ }
+{
+    let mut amount = [0u32; SQUARE];
+    count_in(s, l, least, pred, &mut amount, row)
+}
+
+// Counts with the amounts of a plan of at most `most` events, and with four times as many while the plan has more. It calls itself, and what
+// does so gets no large row of another function into its own frame from the compiler: a small plan takes little of the stack.
+fn count_within(
+    s: &[u8],
+    l: Layout,
+    least: bool,
+    pred: &[u32; ROWS],
+    row: &mut [u32],
+    most: usize,
+) -> First
+    requires { ⌜ Countable s l pred row ⌝ }
+    requires { ⌜ (0 < most) × (l .events ≤ mostEvents) ⌝ }
+    ensures { λ r. ⌜ Counted s l least row r ⌝ }
+{
+    if l.events > most {
+        return count_within(s, l, least, pred, row, 4 * most);
+    }
+    if most <= SMALL {
+        return count_small(s, l, least, pred, row);
+    }
+    if most <= MIDDLE {
+        return count_middle(s, l, least, pred, row);
+    }
+    count_large(s, l, least, pred, row)
+}
+
+// Counts at each place of a sheet without fault, with working rows as the plan needs them: the least opening counts, or only what is missing,
+// which is settled sooner.
+pub fn count_all(s: &[u8], l: Layout, least: bool, pred: &[u32; ROWS], row: &mut [u32]) -> First
+    requires { ⌜ Countable s l pred row ⌝ }
+    ensures { λ r. ⌜ Counted s l least row r ⌝ }
+{
+    count_within(s, l, least, pred, row, SMALL)
 }
 
 // What each number of a row is above the place's opening count.

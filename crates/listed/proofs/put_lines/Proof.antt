@@ -28,7 +28,7 @@ all c =
     told _ (pre .0) _ (pre .1 .0) _ _ missing (c .sum-up .result) (c .sum-up .ensures)
 
 count-all-requires : tie.Need-count-all-requires
-count-all-requires c κs = let begun : tie.Start = search in (begun .pre .0, (begun .pre .1 .0, (begun .pre .1 .1 .0, omega arith)))
+count-all-requires c κs = let begun : tie.Start = search in (begun .pre .0, begun .pre .1 .0, begun .pre .1 .1 .0, omega arith)
 
 above-openings-requires : tie.Need-above-openings-requires
 above-openings-requires c κs = let begun : tie.Start = search in (begun .pre .0, (begun .pre .1 .0, omega arith))

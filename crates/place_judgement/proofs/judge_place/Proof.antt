@@ -10,6 +10,7 @@ use Rattle.layout.specs.Layout.{WithinLimits}
 use Rattle.sheet.specs.declared.Fault.{Fault}
 use Rattle.place_judgement.specs.Judgement.{judgeFault}
 use Rattle.place_judgement.proofs.Answers.{fault-told, refused, taken, known, laid, place, room, spare-told}
+use Rattle.place_judgement.proofs.Given.{few-events}
 use Rattle.place_judgement.proofs.judge_place.Statement.{statement}
 use Rattle.place_judgement.proofs.judge_place.Tie as tie
 
@@ -35,21 +36,24 @@ add-with-row c =
 returns : tie.Need-returns
 returns c = refused _ _ _ _ _ (told (search)) (search) _ (omega arith) (omega arith)
 
-judge-known-requires : tie.Need-judge-known-requires
-judge-known-requires c κs =
+judge-within-requires : tie.Need-judge-within-requires
+judge-within-requires c κs =
     let e = told (search) in
     let else : tie.Else1 = search in
     let none = else .if1 .left in
     let seen : tie.After-examine = search in
     let order = seen .examine .ensures .1 .1 (ap (λ (f : Fault). f .number) (seen .examine .ensures .0) ∙ taken _ _ _ _ _ e none) .1 in
-    (known _ _ _ _ _ e none, (laid _ _ _ _ _ e none, (omega (arith, place _ _ _ _ _ e none), (order, room _ _ _ _ _ e none))))
+    let fits = room _ _ _ _ _ e none in
+    let faultless = known _ _ _ _ _ e none in
+    let layout = laid _ _ _ _ _ e none in
+    ((faultless, layout, omega (arith, place _ _ _ _ _ e none), order, fits .0, fits .1), (omega arith, few-events _ faultless _ layout))
 
 returns-2 : tie.Need-returns-2
 returns-2 c =
-    let known : tie.After-judge-known = search in
-    let is = known .judge-known .ensures in
+    let known : tie.After-judge-within = search in
+    let is = known .judge-within .ensures in
     let else : tie.Else1 = search in
-    spare-told _ _ _ _ _ (told (search)) (else .if1 .left) _ _ (is .1 .0) (is .1 .1) _ (toZ-ofZ w32 _ (record { sfits = known .judge-known .ok }) ∙ is .0)
+    spare-told _ _ _ _ _ (told (search)) (else .if1 .left) _ _ (is .1) (is .2) _ (toZ-ofZ w32 _ (record { sfits = known .judge-within .ok }) ∙ is .0)
 
 pub judge-place-spec : {M : Type 1} → statement M
 judge-place-spec =
@@ -61,7 +65,7 @@ judge-place-spec =
     (λ c κs. search needs)
     (λ c κs. search needs)
     returns
-    judge-known-requires
+    judge-within-requires
     (λ c. search needs)
     (λ c. search needs)
     returns-2)

@@ -23,7 +23,7 @@ count-place-requires c κs =
     let at : tie.At-loop Inv-loop μ-loop = search in
     let s : tie.Start Inv-loop μ-loop = search in
     let size = at .loop .inv .1 .size in
-    (s .pre .0, (s .pre .1 .0, ((omega arith, omega arith), (s .pre .1 .1 .0, (omega arith, at .loop .inv .2)))))
+    (s .pre .0 .0, (s .pre .0 .1, ((omega arith, omega arith), (s .pre .0 .2, (omega arith, at .loop .inv .2)))))
 
 loop-again : tie.Need-loop-again Inv-loop μ-loop
 loop-again c =
