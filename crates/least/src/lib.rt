@@ -1,13 +1,12 @@
 // A place settled from rows, without a sheet: from what each event gives and takes there, and what is before what, comes a tokenflow with
 // the least lack. So another place, which no sheet has, can be settled by the same function.
-ghost use Prim.Native.Nat.{ℕ, _*_, _≤_};
+ghost use Prim.Native.Nat.{ℕ, _≤_};
 ghost use mathlib.Core.Path.{_≡_};
-ghost use lib.ListN.{length};
 ghost use Rattle.finite.specs.Sum.{sumOf};
 ghost use Rattle.ids.specs.Lent.{was, is};
 ghost use Rattle.ids.specs.Limits.{mostEvents};
 ghost use Rattle.plan.specs.Net.{Net, Plan};
-ghost use Rattle.least.specs.PlaceRows.{Small, SomePlace};
+ghost use Rattle.least.specs.PlaceRows.{RowsFor, Small, SomePlace};
 ghost use Rattle.least.specs.Settled.{Settles};
 use drawing::draw_all;
 use filling::put_words;
@@ -43,12 +42,12 @@ pub fn settle_rows(
     enough: u32,
     n: usize,
 ) -> u32
-    requires { ⌜ n * mostEvents ≤ length (now amount) ⌝ }
+    requires { ⌜ RowsFor n amount fed ⌝ }
     requires { ⌜ SomePlace n pred free share ⌝ }
     ensures { λ r. ⌜ Settles n pred amount fed free share givers enough r ⌝ }
 {
     let mut sources = [4294967295u32; WORDS];
-    put_words(fed, ROWS, 0);
+    put_words(fed, n * WORDS, 0);
     draw_all(pred, order, amount, fed, free, share, &mut sources, n);
     settle(pred, amount, fed, free, share, givers, enough, n);
     total(share, n)

@@ -1,13 +1,13 @@
 // One place of a sheet's plan, settled over all orders, and its counts.
-ghost use Prim.Native.Nat.{_-_, _*_, _<_, _≤_};
+ghost use Prim.Native.Nat.{_-_, _<_};
 ghost use mathlib.Core.Path.{_≡_};
 ghost use lib.IntN.{subℕ};
 ghost use lib.ListN.{length, set};
 ghost use Rattle.closure.specs.PlanRows.{Predecessors};
 ghost use Rattle.finite.specs.Filled.{Filled};
 ghost use Rattle.ids.specs.Lent.{was, is};
-ghost use Rattle.ids.specs.Limits.{mostEvents};
 ghost use Rattle.layout.specs.Layout.{LayoutOf};
+ghost use Rattle.least.specs.PlaceRows.{RowsFor};
 ghost use Rattle.sheet.specs.Faultless.{Faultless};
 ghost use Rattle.sheet.specs.Items.{planOf};
 ghost use Rattle.place.specs.Place.{givesIn, takesIn, SettledHere};
@@ -70,7 +70,7 @@ pub fn settle_place(
     requires { ⌜ LayoutOf (now s) l ⌝ }
     requires { ⌜ p .0 < l .places ⌝ }
     requires { ⌜ Predecessors (planOf (now s)) (now pred) ⌝ }
-    requires { ⌜ l .events * mostEvents ≤ length (now amount) ⌝ }
+    requires { ⌜ RowsFor (l .events) amount fed ⌝ }
     ensures { λ r. ⌜ SettledHere s p enough pred amount fed share givers r ⌝ }
 {
     let mut free = [0u32; EVENTS];
@@ -126,7 +126,7 @@ pub fn place_counts(
     requires { ⌜ LayoutOf (now s) l ⌝ }
     requires { ⌜ p .0 < l .places ⌝ }
     requires { ⌜ Predecessors (planOf (now s)) (now pred) ⌝ }
-    requires { ⌜ l .events * mostEvents ≤ length (now amount) ⌝ }
+    requires { ⌜ RowsFor (l .events) amount fed ⌝ }
     ensures { λ r. ⌜ CountedHere s p pred amount fed share givers r ⌝ }
 {
     let mut order = [0usize; EVENTS];

@@ -9,6 +9,7 @@ ghost use Rattle.finite.specs.Filled.{Filled};
 ghost use Rattle.ids.specs.Lent.{was, is};
 ghost use Rattle.ids.specs.Limits.{mostEvents, smallPlan, middlePlan};
 ghost use Rattle.layout.specs.Layout.{LayoutOf};
+ghost use Rattle.least.specs.PlaceRows.{RowsFor, UnfedFrom};
 ghost use Rattle.sheet.specs.Faultless.{Faultless};
 ghost use Rattle.sheet.specs.Items.{planOf, openingAt};
 ghost use Rattle.plan_judgement.specs.Asked.{askedAt};
@@ -72,10 +73,11 @@ fn count_place(
     requires { ⌜ LayoutOf (now s) l ⌝ }
     requires { ⌜ (p .0 < l .places) × (p .0 < length (now row)) ⌝ }
     requires { ⌜ Predecessors (planOf (now s)) (now pred) ⌝ }
-    requires { ⌜ l .events * mostEvents ≤ length (now amount) ⌝ }
+    requires { ⌜ RowsFor (l .events) amount fed ⌝ }
     requires { ⌜ FirstTo (now s) (p .0) first ⌝ }
     ensures { λ _. ⌜ is row ≡ set (was row) (p .0) (askedAt least (was s) (p .0)) ⌝ }
     ensures { λ r. ⌜ FirstTo (was s) (p .0 + 1) r ⌝ }
+    ensures { λ _. ⌜ UnfedFrom (l .events) (is fed) ⌝ }
 {
     let mut own = [0u32; EVENTS];
     let mut done = [0u32; WORDS];
@@ -103,7 +105,7 @@ fn count_places(
     row: &mut [u32],
 ) -> First
     requires { ⌜ Countable s l pred row ⌝ }
-    requires { ⌜ l .events * mostEvents ≤ length (now amount) ⌝ }
+    requires { ⌜ RowsFor (l .events) amount fed ⌝ }
     ensures { λ r. ⌜ Counted s l least row r ⌝ }
 {
     let none = [0u32; WORDS];

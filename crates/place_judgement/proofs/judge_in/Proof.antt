@@ -4,6 +4,7 @@ use borrow.Author.Needs.{needs}
 use mir.Syntax.{w32}
 use mir.Val.{SFits}
 use mir.ValLaws.{toZ-ofZ}
+use Rattle.least.specs.PlaceRows.{zeros-unfed}
 use Rattle.place_judgement.proofs.Given.{few-events, spare-fits, marks-done}
 use Rattle.place_judgement.proofs.judge_in.Statement.{statement}
 use Rattle.place_judgement.proofs.judge_in.Tie as tie
@@ -12,7 +13,7 @@ place-counts-requires : tie.Need-place-counts-requires
 place-counts-requires c κs =
     let s : tie.Start = search in
     let h = s .pre .0 in
-    (h .0, (h .1, (h .2, (h .3 .ahead, s .pre .1))))
+    (h .0, (h .1, (h .2, (h .3 .ahead, (s .pre .1, zeros-unfed _ 2048)))))
 
 hand-flow-requires : tie.Need-hand-flow-requires
 hand-flow-requires c κs =

@@ -1,5 +1,4 @@
 -- `plan_judgement::count_large` meets its contract: the amounts are long enough.
-use Prim.Native.Nat.{_*_}
 use native.Mathlib.Omega.{arith}
 use borrow.Author.Needs.{needs}
 use Rattle.finite.specs.Row.{zeros-room}
@@ -9,7 +8,7 @@ use Rattle.plan_judgement.proofs.count_large.Tie as tie
 count-in-requires : tie.Need-count-in-requires
 count-in-requires c κs =
     let s : tie.Start = search in
-    (s .pre .0, zeros-room (s .args .l .events * 256) 65536 (omega (arith, s .pre .1)))
+    (s .pre .0, zeros-room _ 65536 (omega (arith, s .pre .1)))
 
 pub count-large-spec : {M : Type 1} → statement M
 count-large-spec =
