@@ -140,10 +140,9 @@ fn is_covered(share: &[u32; EVENTS], n: usize, enough: u32) -> bool
     true
 }
 
-// Rounds until what is lacking is within `enough` or the search is the last: the opening count is enough where only what is missing is
-// wanted, and 0 where the least opening count is. Each round but the last leaves less lacking. Where a search starts it writes no origin;
-// 256 stays there, which names no event, since later searches start at no more takers.
-pub fn settle(
+// Rounds until what is lacking is within `enough` or the search is the last. Each round but the last leaves less lacking. Where a search
+// starts it writes no origin; 256 stays there, which names no event, since later searches start at no more takers.
+fn settle_by_rounds(
     pred: &[u32; ROWS],
     amount: &mut [u32],
     fed: &mut [u32; ROWS],
@@ -180,4 +179,27 @@ pub fn settle(
             return;
         }
     }
+}
+
+// Settles a place: the opening count is enough where only what is missing is wanted, and 0 where the least opening count is. Where what is
+// lacking is within `enough` already, no rows for a search are made.
+pub fn settle(
+    pred: &[u32; ROWS],
+    amount: &mut [u32],
+    fed: &mut [u32; ROWS],
+    free: &mut [u32; EVENTS],
+    share: &mut [u32; EVENTS],
+    givers: &mut [u32; WORDS],
+    enough: u32,
+    n: usize,
+)
+    requires { ⌜ Holds n pred amount fed free share ⌝ }
+    requires { ⌜ Order n (now pred) ⌝ }
+    ensures { λ _. ⌜ Moves n pred amount fed free share ⌝ }
+    ensures { λ _. ⌜ Ended n (was pred) enough (rowsAre amount fed free share) (is givers) ⌝ }
+{
+    if is_covered(share, n, enough) {
+        return;
+    }
+    settle_by_rounds(pred, amount, fed, free, share, givers, enough, n);
 }
