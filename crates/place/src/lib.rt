@@ -54,6 +54,7 @@ fn fill(s: &[u8], l: Layout, p: Place, free: &mut [u32; EVENTS], share: &mut [u3
 }
 
 // Settles a place of a sheet without fault. Returns what the takers lack at last, as `settle_rows` does; the lent rows hold what shows it.
+// What `free` and `share` held before doesn't matter.
 pub fn settle_place(
     s: &[u8],
     l: Layout,
@@ -63,6 +64,7 @@ pub fn settle_place(
     order: &[usize; EVENTS],
     amount: &mut [u32],
     fed: &mut [u32; ROWS],
+    free: &mut [u32; EVENTS],
     share: &mut [u32; EVENTS],
     givers: &mut [u32; WORDS],
 ) -> u32
@@ -73,20 +75,9 @@ pub fn settle_place(
     requires { ⌜ RowsFor (l .events) amount fed ⌝ }
     ensures { λ r. ⌜ SettledHere s p enough pred amount fed share givers r ⌝ }
 {
-    let mut free = [0u32; EVENTS];
-    fill(s, l, p, &mut free, share);
+    fill(s, l, p, free, share);
     let n = l.events;
-    settle_rows(
-        pred,
-        order,
-        amount,
-        fed,
-        &mut free,
-        share,
-        givers,
-        enough,
-        n,
-    )
+    settle_rows(pred, order, amount, fed, free, share, givers, enough, n)
 }
 
 // What is lacking above the opening count.
@@ -132,7 +123,20 @@ pub fn place_counts(
     let mut order = [0usize; EVENTS];
     event_order(pred, l.events, &mut order);
     let opens = opening(s, l, p);
-    let least = settle_place(s, l, p, 0, pred, &order, amount, fed, share, givers);
+    let mut free = [0u32; EVENTS];
+    let least = settle_place(
+        s,
+        l,
+        p,
+        0,
+        pred,
+        &order,
+        amount,
+        fed,
+        &mut free,
+        share,
+        givers,
+    );
     let missing = above(least, opens);
     let spare = less(opens, least);
     PlaceCounts { missing, spare }

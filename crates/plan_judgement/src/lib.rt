@@ -66,6 +66,8 @@ fn count_place(
     order: &[usize; EVENTS],
     amount: &mut [u32],
     fed: &mut [u32; ROWS],
+    free: &mut [u32; EVENTS],
+    share: &mut [u32; EVENTS],
     row: &mut [u32],
     first: First,
 ) -> First
@@ -79,11 +81,22 @@ fn count_place(
     ensures { λ r. ⌜ FirstTo (was s) (p .0 + 1) r ⌝ }
     ensures { λ _. ⌜ UnfedFrom (l .events) (is fed) ⌝ }
 {
-    let mut own = [0u32; EVENTS];
     let mut done = [0u32; WORDS];
     let opens = opening(s, l, p);
     let stop = either(least, 0, opens);
-    let lacks = settle_place(s, l, p, stop, pred, order, amount, fed, &mut own, &mut done);
+    let lacks = settle_place(
+        s,
+        l,
+        p,
+        stop,
+        pred,
+        order,
+        amount,
+        fed,
+        free,
+        share,
+        &mut done,
+    );
     let m = above(lacks, opens);
     let at = p.0;
     row[at] = either(least, lacks, m);
@@ -102,6 +115,8 @@ fn count_places(
     order: &[usize; EVENTS],
     amount: &mut [u32],
     fed: &mut [u32; ROWS],
+    free: &mut [u32; EVENTS],
+    share: &mut [u32; EVENTS],
     row: &mut [u32],
 ) -> First
     requires { ⌜ Countable s l pred row ⌝ }
@@ -114,7 +129,20 @@ fn count_places(
         done: none,
     };
     for p in 0..l.places {
-        first = count_place(s, l, Place(p), least, pred, order, amount, fed, row, first);
+        first = count_place(
+            s,
+            l,
+            Place(p),
+            least,
+            pred,
+            order,
+            amount,
+            fed,
+            free,
+            share,
+            row,
+            first,
+        );
     }
     first
 }
@@ -135,7 +163,20 @@ fn count_in(
     let mut order = [0usize; EVENTS];
     event_order(pred, l.events, &mut order);
     let mut fed = [0u32; ROWS];
-    count_places(s, l, least, pred, &order, amount, &mut fed, row)
+    let mut free = [0u32; EVENTS];
+    let mut share = [0u32; EVENTS];
+    count_places(
+        s,
+        l,
+        least,
+        pred,
+        &order,
+        amount,
+        &mut fed,
+        &mut free,
+        &mut share,
+        row,
+    )
 }
 
 // Counts with the amounts of a small plan.

@@ -51,8 +51,8 @@ count-place-spec =
     settle-place-requires
     (λ c κs. search needs)
     (λ c κs. search needs)
-    (λ c. search needs)
-    (λ c. search needs)
+    (λ c. let s : tie.Start = search in omega (arith, s .pre .1 .1 .0 .0, s .pre .0 .laid .limited .places, s .pre .1 .0 .places))
+    (λ c. let s : tie.Start = search in s .pre .1 .1 .0 .1)
     (λ c. search needs)
     (λ c. search needs)
     returns
