@@ -80,7 +80,7 @@ fn advance(
     true
 }
 
-// Forgets by way of which place each giver was met, so that a push looks at those of the next search only.
+// Forgets by way of which place each giver was met, so that a push after the next search looks at those of that search only.
 fn forget(via: &mut [usize; EVENTS])
     ensures { λ _. ⌜ is via ≡ replicate mostEvents mostEvents ⌝ }
 {
@@ -108,7 +108,6 @@ fn round(
         ⌜ Rounded n (was pred) (rowsWere amount fed free share) (rowsAre amount fed free share)
         (is takers) (is givers) r ⌝ }
 {
-    forget(via);
     let tail = search(pred, fed, share, n, takers, givers, queue, origin, via);
     advance(
         pred,
@@ -160,7 +159,7 @@ fn settle_by_rounds(
     let mut takers = [0u32; WORDS];
     let mut queue = [0usize; EVENTS];
     let mut origin = [EVENTS; EVENTS];
-    let mut via = [0usize; EVENTS];
+    let mut via = [EVENTS; EVENTS];
     while !is_covered(share, n, enough) {
         let less = round(
             pred,
@@ -178,6 +177,7 @@ fn settle_by_rounds(
         if !less {
             return;
         }
+        forget(&mut via);
     }
 }
 

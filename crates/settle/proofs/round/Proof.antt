@@ -20,7 +20,6 @@ pub round-spec : {M : Type 1} → statement M
 round-spec =
     tie.close
     (tie.spec
-    (λ c κs. search needs)
     (λ c κs. let start : tie.Start = search in (start .pre .0 .events, narrow (start .pre .0) (start .pre .1)))
     advance-requires
     (λ c. search needs)

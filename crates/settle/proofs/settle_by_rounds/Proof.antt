@@ -61,6 +61,7 @@ settle-by-rounds-spec =
     (λ c κs. (search, search))
     (λ c. search needs)
     returns
+    (λ c κs. search needs)
     loop-less
     (λ c. search (moves, needs))
     (λ c. search needs)
