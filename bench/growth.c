@@ -13,7 +13,7 @@ static void at_size(unsigned places, unsigned events, unsigned pairs, unsigned s
 
     for (unsigned i = 0; i < sheets; i++) {
         sheet_of_size(&sheet, places, events, pairs, i);
-        struct times times = measure(&sheet, i);
+        struct times times = measure(&sheet, i, 1);
         all_times[i] = times.archive;
         ratios[i] = ratio(&times);
         *differ += !times.agree;

@@ -23,9 +23,9 @@ static struct times measure_again(const struct kind *kind, unsigned number)
     static struct sheet sheet;
 
     sheet_of_kind(&sheet, kind, number);
-    struct times kept = measure(&sheet, number);
+    struct times kept = measure(&sheet, number, 1);
     for (int i = 1; i < REPEATS; i++) {
-        struct times times = measure(&sheet, number);
+        struct times times = measure(&sheet, number, 1);
         keep_lesser(&kept, &times);
     }
     return kept;

@@ -1,12 +1,18 @@
 // The benchmark: ratios of the archive's time to its peers' for each kind of sheet, of a listing's to the plan judgement's, of mending to judging
 // faults, the bars, and the growth.
 #include "growth.h"
+#include "kinds.h"
 #include "listing_table.h"
-#include "measure.h"
 #include "mending_table.h"
+#include "words.h"
 
 #include <stdio.h>
 #include <stdlib.h>
+
+// Over the fastest library's time.
+static const struct {
+    double median, worst;
+} bars[GROUPS] = {{1, 2}, {1, 2}, {1, 2}, {0.6, 1}};
 
 struct summary {
     unsigned sheets, differ; // judged, and of these judged differently by different judges
@@ -33,12 +39,12 @@ static void print_fastest(const unsigned *wins, unsigned sheets)
 static void judge_kind(const struct kind *kind, unsigned sheets, struct summary *summary)
 {
     static struct sheet sheet;
-    double over_peer[MAX_SHEETS], over_independent[MAX_SHEETS];
+    static double over_peer[MOST_SHEETS], over_independent[MOST_SHEETS];
     unsigned wins[LIBRARIES] = {0}, pairs = 0;
 
     for (unsigned i = 0; i < sheets; i++) {
-        sheet_of_kind(&sheet, kind, i);
-        struct times times = measure(&sheet, i);
+        any_sheet(&sheet, kind, i);
+        struct times times = measure(&sheet, i, calls_of(kind));
         over_peer[i] = ratio(&times);
         over_independent[i] = times.archive / times.independent;
         if (times.fastest >= 0)
@@ -47,27 +53,26 @@ static void judge_kind(const struct kind *kind, unsigned sheets, struct summary 
             printf("differ: %s, sheet %u\n", kind->name, i);
         summary->differ += !times.agree;
         summary->sheets++;
-        pairs = (unsigned)sheet.bytes[28] + 256u * sheet.bytes[29];
+        pairs += get32(sheet.bytes + 28);
     }
     double middle = median(over_peer, sheets), independent = median(over_independent, sheets);
-    int misses = middle > 1 || over_peer[sheets - 1] > 2;
-    printf("%-24s %6u   %-8.2f %-8.2f %-8.2f %-8.2f", kind->name, pairs, middle, over_peer[sheets - 1], independent,
+    printf("%-24s %6u   %-8.2f %-8.2f %-8.2f %-8.2f", kind->name, pairs / sheets, middle, over_peer[sheets - 1], independent,
            over_independent[sheets - 1]);
     print_fastest(wins, sheets);
-    summary->missed[kind->group] |= misses;
+    summary->missed[kind->group] |= middle > bars[kind->group].median || over_peer[sheets - 1] > bars[kind->group].worst;
 }
 
-// Each group apart. Returns whether the bar is missed on sheets at the limits, which is what it is set for.
+// Each group apart. Returns whether the bar is missed on sheets that it is set for: all but those with few pairs.
 static int print_bar(const struct summary *summary)
 {
-    printf("Bar: at the median of each kind at most the time of the fastest of three libraries, on no sheet more than twice that.\n");
+    printf("Bar: over the time of the fastest of three libraries at most so much at the median of each kind, and on no sheet more than so much.\n");
     if (!archive_present() || libraries_present() < LIBRARIES) {
         printf("not tried: it needs the archive and all three libraries\n");
         return 0;
     }
     for (int group = 0; group < GROUPS; group++)
-        printf("%s: %s\n", group_titles[group], summary->missed[group] ? "missed" : "met");
-    return summary->missed[AT_THE_LIMITS] || summary->missed[MADE_TO_BE_SLOW];
+        printf("%s: %.1f and %.1f: %s\n", group_titles[group], bars[group].median, bars[group].worst, summary->missed[group] ? "missed" : "met");
+    return summary->missed[AT_THE_LIMITS] || summary->missed[MADE_TO_BE_SLOW] || summary->missed[EVERYDAY];
 }
 
 int main(int count, char **words)
@@ -79,11 +84,13 @@ int main(int count, char **words)
         fprintf(stderr, "the number of sheets of each kind is 1 to %d\n", MAX_SHEETS);
         return 2;
     }
-    printf("Time of the archive for a whole sheet of %d places, over the peer's: %u sheets of each kind.\n", MAX_PLACES, sheets);
-    for (unsigned k = 0; k < kind_count; k++) {
-        if (k == 0 || kinds[k].group != kinds[k - 1].group)
-            print_head(kinds[k].group);
-        judge_kind(&kinds[k], sheets, &summary);
+    printf("Time of the archive for a whole sheet, over the peer's: %u sheets of each kind with %d places, %u of each everyday kind.\n", sheets, MAX_PLACES,
+           sheets_of(kind_at(kind_count), sheets));
+    for (unsigned k = 0; k < all_kinds(); k++) {
+        const struct kind *kind = kind_at(k);
+        if (k == 0 || kind->group != kind_at(k - 1)->group)
+            print_head(kind->group);
+        judge_kind(kind, sheets_of(kind, sheets), &summary);
     }
     print_listing(sheets, summary.listing_missed);
     struct mending_bar mending = print_mending(sheets);

@@ -25,7 +25,7 @@
 #define kolmogorov_least NULL
 #endif
 
-enum { TURNS = 3 };
+enum { TURNS = 3, BATCH_TURNS = 9 };
 
 static uint32_t (*const archive)(const uint8_t *sheet, size_t length) = reedanchor_judge;
 
@@ -98,35 +98,62 @@ void choose_openings(struct sheet *sheet, unsigned number)
     write_openings(sheet, least, plan.places, number);
 }
 
-struct times measure(struct sheet *sheet, unsigned number)
+typedef uint32_t till_call(const uint8_t *sheet, size_t length);
+
+// Keeps the time of so many calls if it is the best so far. Returns whether all have the answer.
+static int time_till(till_call *judge, const struct sheet *sheet, uint32_t answer, unsigned calls, double *best, int turn)
+{
+    double began = processor_time();
+    int agree = 1;
+
+    for (unsigned i = 0; i < calls; i++)
+        agree &= judge(sheet->bytes, sheet->length) == answer;
+    keep_best(best, began, turn);
+    return agree;
+}
+
+// The same for a library, where it is installed.
+static int time_library(const struct library *library, const struct plan *plan, const uint32_t *least, unsigned calls, double *best, int turn)
+{
+    uint32_t found[MAX_PLACES];
+
+    if (library->least == NULL)
+        return 1;
+    double began = processor_time();
+    for (unsigned i = 0; i < calls; i++)
+        library->least(plan, found);
+    keep_best(best, began, turn);
+    return memcmp(least, found, plan->places * sizeof *least) == 0;
+}
+
+// Times of one call each, and the fastest library.
+static void finish(struct times *times, unsigned calls)
+{
+    times->archive /= calls;
+    times->independent /= calls;
+    for (int i = 0; i < LIBRARIES; i++) {
+        times->library[i] /= calls;
+        if (libraries[i].least != NULL && (times->fastest < 0 || times->library[i] < times->library[times->fastest]))
+            times->fastest = i;
+    }
+}
+
+struct times measure(struct sheet *sheet, unsigned number, unsigned calls)
 {
     static struct plan plan;
-    uint32_t (*const judge)(const uint8_t *, size_t) = archive != NULL ? archive : independent_till; // the latter stands in
     struct times times = {.fastest = -1, .agree = 1};
-    uint32_t least[MAX_PLACES], other[MAX_PLACES];
+    uint32_t least[MAX_PLACES];
 
     read_plan(sheet, &plan, least);
     uint32_t answer = write_openings(sheet, least, plan.places, number);
 
-    for (int turn = 0; turn < TURNS; turn++) {
-        double began = processor_time();
-        times.agree &= judge(sheet->bytes, sheet->length) == answer;
-        keep_best(&times.archive, began, turn);
-        began = processor_time();
-        times.agree &= independent_till(sheet->bytes, sheet->length) == answer;
-        keep_best(&times.independent, began, turn);
-        for (int i = 0; i < LIBRARIES; i++) {
-            if (libraries[i].least == NULL)
-                continue;
-            began = processor_time();
-            libraries[i].least(&plan, other);
-            keep_best(&times.library[i], began, turn);
-            times.agree &= memcmp(least, other, plan.places * sizeof *least) == 0;
-        }
+    for (int turn = 0; turn < (calls > 1 ? BATCH_TURNS : TURNS); turn++) {
+        times.agree &= time_till(archive != NULL ? archive : independent_till, sheet, answer, calls, &times.archive, turn); // the latter stands in
+        times.agree &= time_till(independent_till, sheet, answer, calls, &times.independent, turn);
+        for (int i = 0; i < LIBRARIES; i++)
+            times.agree &= time_library(&libraries[i], &plan, least, calls, &times.library[i], turn);
     }
-    for (int i = 0; i < LIBRARIES; i++)
-        if (libraries[i].least != NULL && (times.fastest < 0 || times.library[i] < times.library[times.fastest]))
-            times.fastest = i;
+    finish(&times, calls);
     return times;
 }
 

@@ -25,8 +25,9 @@ struct times {
 // Gives the sheet opening counts that are just enough, or at odd numbers just one too few at the last place that needs any.
 void choose_openings(struct sheet *sheet, unsigned number);
 
-// Chooses opening counts as above, and judges the sheet with all. Each time is the best of a few; all take turns.
-struct times measure(struct sheet *sheet, unsigned number);
+// Chooses opening counts as above, and judges the sheet with all. Each time is the best of a few; all take turns. So many calls are timed at
+// once, and a time is that of one of them.
+struct times measure(struct sheet *sheet, unsigned number, unsigned calls);
 
 // The archive's time over the fastest library's, or over the independent judge's where no library is installed.
 double ratio(const struct times *times);

@@ -169,6 +169,7 @@ const char *const group_titles[GROUPS] = {
     "Sheets at the limits",
     "Sheets at the limits, made to be slow",
     "Sheets with as many places and events but few pairs, made to be slow",
+    "Everyday sheets",
 };
 
 const struct kind kinds[] = {

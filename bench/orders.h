@@ -18,7 +18,7 @@ struct order {
 // Numbering of the events and the pairs in the sheet.
 enum numbering { SHUFFLED, AS_MADE, BACKWARDS };
 
-enum group { AT_THE_LIMITS, MADE_TO_BE_SLOW, FEW_PAIRS, GROUPS };
+enum group { AT_THE_LIMITS, MADE_TO_BE_SLOW, FEW_PAIRS, EVERYDAY, GROUPS };
 extern const char *const group_titles[GROUPS];
 
 struct kind {
@@ -28,6 +28,7 @@ struct kind {
     void (*make)(struct order *order, struct random *r);
 };
 
+// All but the everyday kinds, which are in everyday.c.
 extern const struct kind kinds[];
 extern const unsigned kind_count;
 

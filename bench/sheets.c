@@ -65,16 +65,16 @@ static void role_weights(struct net *net, struct random *r, unsigned t, unsigned
     net->takes[t][p] = (uint16_t)(role == TAKER || role == BIG_TAKER || role == FIXED_TAKER ? weight : 0);
 }
 
-// At each place weights up to 1,000, or up to 10 at every third; beside big roles the others have weights up to 8.
-static void make_weights(struct net *net, struct random *r, enum style style, int has_big)
+// At each place weights up to 1,000, or up to 10 at every third; where they are to be small, as beside big roles, up to 8.
+static void make_weights(struct net *net, struct random *r, enum style style, int small)
 {
     for (unsigned p = 0; p < net->places; p++) {
-        unsigned scale = has_big ? 7 : random_below(r, 3) == 0 ? 10 : MAX_WEIGHT - 1;
+        unsigned scale = small ? 7 : random_below(r, 3) == 0 ? 10 : MAX_WEIGHT - 1;
         for (unsigned t = 0; t < net->transitions; t++) {
             if (net->role[t] == ANY)
                 any_weights(net, r, t, p, style, scale);
             else
-                role_weights(net, r, t, p, has_big ? FULL : style, scale);
+                role_weights(net, r, t, p, small ? FULL : style, scale);
         }
     }
 }
@@ -192,15 +192,20 @@ static void write_sheet(struct sheet *sheet, const struct net *net, const struct
     put_order(sheet, order, label, numbering, r);
 }
 
+static void net_start(struct net *net, unsigned places, unsigned transitions)
+{
+    memset(net, 0, sizeof *net);
+    net->places = places;
+    net->transitions = transitions;
+}
+
 static void make_sheet(struct sheet *sheet, const struct order *order, unsigned places, int workflow, enum numbering numbering,
                        unsigned number, struct random *r)
 {
     static struct net net;
     uint16_t label[MAX_EVENTS];
 
-    memset(&net, 0, sizeof net);
-    net.places = places;
-    net.transitions = MAX_TRANSITIONS;
+    net_start(&net, places, MAX_TRANSITIONS);
     int has_big = make_roles(&net, order);
     if (workflow)
         make_workflow_weights(&net, r);
@@ -227,6 +232,18 @@ void sheet_of_size(struct sheet *sheet, unsigned places, unsigned events, unsign
 
     order_random(&order, &r, events, pairs);
     make_sheet(sheet, &order, places, 0, SHUFFLED, number, &r);
+}
+
+void sheet_small(struct sheet *sheet, const struct order *order, unsigned places, unsigned transitions, unsigned number, struct random *r)
+{
+    static struct net net;
+    uint16_t label[MAX_EVENTS];
+
+    net_start(&net, places, transitions);
+    make_weights(&net, r, number % 2 == 0 ? SMALL : HALVES, 1);
+    for (unsigned e = 0; e < order->events; e++)
+        label[e] = random_label(&net, r, ANY);
+    write_sheet(sheet, &net, order, label, SHUFFLED, r);
 }
 
 void sheet_set_openings(struct sheet *sheet, const uint32_t *opening, unsigned places)
