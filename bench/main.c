@@ -4,6 +4,7 @@
 #include "kinds.h"
 #include "listing_table.h"
 #include "mending_table.h"
+#include "order_table.h"
 #include "words.h"
 
 #include <stdio.h>
@@ -94,6 +95,7 @@ int main(int count, char **words)
     }
     print_listing(sheets, summary.listing_missed);
     struct mending_bar mending = print_mending(sheets);
+    summary.differ += print_order(sheets);
     summary.differ += print_growth(sheets < 5 ? sheets : 5);
 
     printf("\n%u sheets of these kinds, and those of the growth; judged differently: %u\n", summary.sheets, summary.differ);

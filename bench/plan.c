@@ -96,7 +96,7 @@ static uint32_t read_net(const uint8_t *openings, const uint8_t *weights, struct
 // Faults 7 to 10, each looked for in the whole body before the next one.
 static uint32_t read_events(const uint8_t *labels, const uint8_t *pairs, struct plan *plan)
 {
-    static uint8_t given[MAX_EVENTS][MAX_EVENTS];
+    static uint32_t given[MAX_EVENTS][MAX_EVENTS / 32];
     unsigned self = MAX_PAIRS, twice = MAX_PAIRS; // the first such pairs
 
     for (unsigned e = 0; e < plan->events; e++) {
@@ -105,16 +105,16 @@ static uint32_t read_events(const uint8_t *labels, const uint8_t *pairs, struct 
             return fault_at(plan, 7, e);
         plan->label[e] = (uint16_t)label;
     }
-    memset(given, 0, sizeof given);
+    memset(given, 0, plan->events * sizeof *given);
     for (unsigned i = 0; i < plan->pairs; i++) {
         uint32_t a = get16(pairs + 4 * i), b = get16(pairs + 4 * i + 2);
         if (a >= plan->events || b >= plan->events)
             return fault_at(plan, 8, i);
         if (a == b && self == MAX_PAIRS)
             self = i;
-        if (given[a][b] && twice == MAX_PAIRS)
+        if ((given[a][b / 32] >> b % 32 & 1) != 0 && twice == MAX_PAIRS)
             twice = i;
-        given[a][b] = 1;
+        given[a][b / 32] |= (uint32_t)1 << b % 32;
         plan->earlier[i] = (uint16_t)a;
         plan->later[i] = (uint16_t)b;
     }
@@ -168,7 +168,7 @@ static void work_out_skeleton(struct plan *plan)
     }
 }
 
-uint32_t plan_read(const uint8_t *sheet, size_t length, struct plan *plan)
+uint32_t plan_read_pairs(const uint8_t *sheet, size_t length, struct plan *plan)
 {
     size_t start[PLAN_ENTRIES + 1];
 
@@ -179,6 +179,13 @@ uint32_t plan_read(const uint8_t *sheet, size_t length, struct plan *plan)
         fault = read_net(sheet + start[0], sheet + start[1], plan);
     if (fault == 0)
         fault = read_events(sheet + start[2], sheet + start[3], plan);
+    return fault;
+}
+
+uint32_t plan_read(const uint8_t *sheet, size_t length, struct plan *plan)
+{
+    uint32_t fault = plan_read_pairs(sheet, length, plan);
+
     if (fault == 0)
         fault = work_out_before(plan);
     if (fault == 0)

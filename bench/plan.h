@@ -35,6 +35,9 @@ extern "C" {
 // plan is good for.
 uint32_t plan_read(const uint8_t *sheet, size_t length, struct plan *plan);
 
+// The same up to the pairs: no cycle is looked for, and neither "before" nor the skeleton is worked out.
+uint32_t plan_read_pairs(const uint8_t *sheet, size_t length, struct plan *plan);
+
 // The first entry of a table of contents whose start isn't the end of what precedes it, PLAN_ENTRIES if there is none.
 unsigned plan_wrong_entry(const uint8_t *sheet);
 
