@@ -1,5 +1,6 @@
 // The benchmark: ratios of the archive's time to its peers' for each kind of sheet, of a listing's to the plan judgement's, of mending to judging
-// faults, the bars, and the growth.
+// faults, times of the order, ratios to an earlier archive, the bars, and the growth.
+#include "earlier.h"
 #include "growth.h"
 #include "kinds.h"
 #include "listing_table.h"
@@ -85,6 +86,8 @@ int main(int count, char **words)
         fprintf(stderr, "the number of sheets of each kind is 1 to %d\n", MAX_SHEETS);
         return 2;
     }
+    if (!earlier_load())
+        return 1;
     printf("Time of the archive for a whole sheet, over the peer's: %u sheets of each kind with %d places, %u of each everyday kind.\n", sheets, MAX_PLACES,
            sheets_of(kind_at(kind_count), sheets));
     for (unsigned k = 0; k < all_kinds(); k++) {
@@ -96,11 +99,14 @@ int main(int count, char **words)
     print_listing(sheets, summary.listing_missed);
     struct mending_bar mending = print_mending(sheets);
     summary.differ += print_order(sheets);
+    int slower = 0;
+    summary.differ += print_earlier(sheets, &slower);
     summary.differ += print_growth(sheets < 5 ? sheets : 5);
 
     printf("\n%u sheets of these kinds, and those of the growth; judged differently: %u\n", summary.sheets, summary.differ);
     int missed = print_bar(&summary);
     missed |= print_listing_bar(summary.listing_missed);
     print_mending_bar(&mending);
-    return summary.differ > 0 || missed || mending.missed;
+    print_earlier_bar(slower);
+    return summary.differ > 0 || missed || mending.missed || slower;
 }

@@ -1,0 +1,145 @@
+// Compares the archive with an earlier one, a shared library that the variable BEFORE names: the fault call and the till server's, by turns.
+#include "earlier.h"
+
+#include "kinds.h"
+
+#include <stdio.h>
+
+#ifdef HAVE_ARCHIVE
+#include "../include/reedanchor.h"
+
+#include <dlfcn.h>
+#include <stdlib.h>
+
+enum { TURNS = 7, FEWEST_CALLS = 5, MOST = 40, MOST_EVERYDAY = 100 }; // the last two in hundredths of the earlier time
+
+struct archive {
+    uint32_t (*fault)(const uint8_t *sheet, size_t length, uint32_t *item);
+    uint32_t (*judge)(const uint8_t *sheet, size_t length);
+};
+
+static const struct archive present = {reedanchor_fault, reedanchor_judge};
+static struct archive earlier; // null where none is loaded
+
+int earlier_load(void)
+{
+    const char *name = getenv("BEFORE");
+
+    if (name == NULL || *name == '\0')
+        return 1;
+    void *library = dlopen(name, RTLD_NOW | RTLD_LOCAL);
+    if (library != NULL) {
+        *(void **)&earlier.fault = dlsym(library, "reedanchor_fault");
+        *(void **)&earlier.judge = dlsym(library, "reedanchor_judge");
+    }
+    if (earlier.fault != NULL && earlier.judge != NULL)
+        return 1;
+    fprintf(stderr, "BEFORE names no library with both calls: %s\n", library == NULL ? dlerror() : name);
+    return 0;
+}
+
+// Keeps the time of so many fault calls if it is the best so far. Returns the fault.
+static uint32_t time_fault(const struct archive *archive, const struct sheet *sheet, unsigned calls, double *best, int turn)
+{
+    double began = processor_time();
+    uint32_t fault = 0, item;
+
+    for (unsigned i = 0; i < calls; i++)
+        fault |= archive->fault(sheet->bytes, sheet->length, &item);
+    keep_best(best, began, turn);
+    return fault;
+}
+
+// The same for the till server's call.
+static uint32_t time_judge(const struct archive *archive, const struct sheet *sheet, unsigned calls, double *best, int turn)
+{
+    double began = processor_time();
+    uint32_t answer = 0;
+
+    for (unsigned i = 0; i < calls; i++)
+        answer |= archive->judge(sheet->bytes, sheet->length);
+    keep_best(best, began, turn);
+    return answer;
+}
+
+// The two ratios of a sheet. Returns whether both archives say the same of it.
+static int compare(const struct sheet *sheet, unsigned calls, double *fault_ratio, double *judge_ratio)
+{
+    double fault[2], judge[2];
+    int agree = 1;
+
+    for (int turn = 0; turn < TURNS; turn++) {
+        uint32_t due = time_fault(&earlier, sheet, calls, &fault[0], turn);
+        agree &= time_fault(&present, sheet, calls, &fault[1], turn) == due;
+        due = time_judge(&earlier, sheet, calls, &judge[0], turn);
+        agree &= time_judge(&present, sheet, calls, &judge[1], turn) == due;
+    }
+    *fault_ratio = fault[1] / fault[0];
+    *judge_ratio = judge[1] / judge[0];
+    return agree;
+}
+
+// Whether the ratio, as it is printed, is above the bar.
+static int misses(const struct kind *kind, double ratio)
+{
+    return (int)(100 * ratio + 0.5) > (kind->group == EVERYDAY ? MOST_EVERYDAY : MOST);
+}
+
+static unsigned print_kind(const struct kind *kind, unsigned sheets, int *missed)
+{
+    static struct sheet sheet;
+    static double fault[MOST_SHEETS], judge[MOST_SHEETS];
+    unsigned differ = 0, calls = calls_of(kind) > FEWEST_CALLS ? calls_of(kind) : FEWEST_CALLS;
+
+    for (unsigned i = 0; i < sheets; i++) {
+        any_sheet(&sheet, kind, i);
+        choose_openings(&sheet, i);
+        differ += !compare(&sheet, calls, &fault[i], &judge[i]);
+    }
+    double fault_middle = median(fault, sheets), judge_middle = median(judge, sheets);
+    int misses_it = misses(kind, fault_middle);
+    printf("%-24s   %-8.2f %-8.2f %-8.2f %-8.2f %s\n", kind->name, fault_middle, fault[sheets - 1], judge_middle, judge[sheets - 1],
+           misses_it ? "missed" : "met");
+    *missed |= misses_it;
+    return differ;
+}
+
+unsigned print_earlier(unsigned sheets, int *missed)
+{
+    unsigned differ = 0;
+
+    if (earlier.fault == NULL)
+        return 0;
+    printf("\nThe archive's time over that of the earlier one: judging faults, and the till server's call\n");
+    printf("%-24s   %-17s %-17s %s\n", "kind", "fault", "till server's", "bar");
+    printf("%-24s   %-8s %-8s %-8s %-8s\n", "", "median", "worst", "median", "worst");
+    for (unsigned k = 0; k < all_kinds(); k++)
+        differ += print_kind(kind_at(k), sheets_of(kind_at(k), sheets), missed);
+    return differ;
+}
+
+void print_earlier_bar(int missed)
+{
+    if (earlier.fault == NULL)
+        return;
+    printf("Fault: at the median of each kind at most %.1f of the earlier archive's time, of an everyday kind %.1f.\n%s\n", MOST / 100.0,
+           MOST_EVERYDAY / 100.0, missed ? "missed" : "met");
+}
+#else
+int earlier_load(void)
+{
+    return 1;
+}
+
+unsigned print_earlier(unsigned sheets, int *missed)
+{
+    (void)sheets;
+    (void)missed;
+    return 0;
+}
+
+void print_earlier_bar(int missed)
+{
+    (void)missed;
+}
+#endif
