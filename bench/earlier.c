@@ -1,14 +1,13 @@
-// Compares the archive with an earlier one, a shared library that the variable BEFORE names: the fault call and the till server's, by turns.
+// Compares the archive with an earlier one: the fault call and the till server's, by turns.
+//
+// Both are loaded as shared libraries. How the linker lays out the same code makes up to a third of its time, so an archive that stands in this
+// program wouldn't be like one that is loaded.
 #include "earlier.h"
 
 #include "kinds.h"
 
-#include <stdio.h>
-
-#ifdef HAVE_ARCHIVE
-#include "../include/reedanchor.h"
-
 #include <dlfcn.h>
+#include <stdio.h>
 #include <stdlib.h>
 
 enum { TURNS = 7, FEWEST_CALLS = 5, MOST = 40, MOST_EVERYDAY = 100 }; // the last two in hundredths of the earlier time
@@ -18,24 +17,29 @@ struct archive {
     uint32_t (*judge)(const uint8_t *sheet, size_t length);
 };
 
-static const struct archive present = {reedanchor_fault, reedanchor_judge};
-static struct archive earlier; // null where none is loaded
+static struct archive before, after; // null where none is loaded
+
+// Loads the library that a variable names. Returns whether that can be done.
+static int load(const char *variable, struct archive *archive)
+{
+    const char *name = getenv(variable);
+    void *library = name == NULL ? NULL : dlopen(name, RTLD_NOW | RTLD_LOCAL);
+
+    if (library != NULL) {
+        *(void **)&archive->fault = dlsym(library, "reedanchor_fault");
+        *(void **)&archive->judge = dlsym(library, "reedanchor_judge");
+    }
+    if (archive->fault != NULL && archive->judge != NULL)
+        return 1;
+    fprintf(stderr, "%s names no library with both calls: %s\n", variable, name == NULL ? "it isn't set" : library == NULL ? dlerror() : name);
+    return 0;
+}
 
 int earlier_load(void)
 {
     const char *name = getenv("BEFORE");
 
-    if (name == NULL || *name == '\0')
-        return 1;
-    void *library = dlopen(name, RTLD_NOW | RTLD_LOCAL);
-    if (library != NULL) {
-        *(void **)&earlier.fault = dlsym(library, "reedanchor_fault");
-        *(void **)&earlier.judge = dlsym(library, "reedanchor_judge");
-    }
-    if (earlier.fault != NULL && earlier.judge != NULL)
-        return 1;
-    fprintf(stderr, "BEFORE names no library with both calls: %s\n", library == NULL ? dlerror() : name);
-    return 0;
+    return name == NULL || *name == '\0' || (load("BEFORE", &before) && load("AFTER", &after));
 }
 
 // Keeps the time of so many fault calls if it is the best so far. Returns the fault.
@@ -69,10 +73,10 @@ static int compare(const struct sheet *sheet, unsigned calls, double *fault_rati
     int agree = 1;
 
     for (int turn = 0; turn < TURNS; turn++) {
-        uint32_t due = time_fault(&earlier, sheet, calls, &fault[0], turn);
-        agree &= time_fault(&present, sheet, calls, &fault[1], turn) == due;
-        due = time_judge(&earlier, sheet, calls, &judge[0], turn);
-        agree &= time_judge(&present, sheet, calls, &judge[1], turn) == due;
+        uint32_t due = time_fault(&before, sheet, calls, &fault[0], turn);
+        agree &= time_fault(&after, sheet, calls, &fault[1], turn) == due;
+        due = time_judge(&before, sheet, calls, &judge[0], turn);
+        agree &= time_judge(&after, sheet, calls, &judge[1], turn) == due;
     }
     *fault_ratio = fault[1] / fault[0];
     *judge_ratio = judge[1] / judge[0];
@@ -108,7 +112,7 @@ unsigned print_earlier(unsigned sheets, int *missed)
 {
     unsigned differ = 0;
 
-    if (earlier.fault == NULL)
+    if (before.fault == NULL)
         return 0;
     printf("\nThe archive's time over that of the earlier one: judging faults, and the till server's call\n");
     printf("%-24s   %-17s %-17s %s\n", "kind", "fault", "till server's", "bar");
@@ -120,26 +124,8 @@ unsigned print_earlier(unsigned sheets, int *missed)
 
 void print_earlier_bar(int missed)
 {
-    if (earlier.fault == NULL)
+    if (before.fault == NULL)
         return;
     printf("Fault: at the median of each kind at most %.1f of the earlier archive's time, of an everyday kind %.1f.\n%s\n", MOST / 100.0,
            MOST_EVERYDAY / 100.0, missed ? "missed" : "met");
 }
-#else
-int earlier_load(void)
-{
-    return 1;
-}
-
-unsigned print_earlier(unsigned sheets, int *missed)
-{
-    (void)sheets;
-    (void)missed;
-    return 0;
-}
-
-void print_earlier_bar(int missed)
-{
-    (void)missed;
-}
-#endif

@@ -67,13 +67,13 @@ static void judge_kind(const struct kind *kind, unsigned sheets, struct summary 
 // Each group apart. Returns whether the bar is missed on sheets that it is set for: all but those with few pairs.
 static int print_bar(const struct summary *summary)
 {
-    printf("Bar: over the time of the fastest of three libraries at most so much at the median of each kind, and on no sheet more than so much.\n");
+    printf("Bar: at most this part of the time of the fastest of three libraries at the median of each kind, and this on any sheet.\n");
     if (!archive_present() || libraries_present() < LIBRARIES) {
         printf("not tried: it needs the archive and all three libraries\n");
         return 0;
     }
     for (int group = 0; group < GROUPS; group++)
-        printf("%s: %.1f and %.1f: %s\n", group_titles[group], bars[group].median, bars[group].worst, summary->missed[group] ? "missed" : "met");
+        printf("%s: %.1f, %.1f: %s\n", group_titles[group], bars[group].median, bars[group].worst, summary->missed[group] ? "missed" : "met");
     return summary->missed[AT_THE_LIMITS] || summary->missed[MADE_TO_BE_SLOW] || summary->missed[EVERYDAY];
 }
 

@@ -56,11 +56,11 @@ unsigned print_order(unsigned sheets)
 
     printf("\nOrder: microseconds to work out what is before and after each event, with marks in bytes by Warshall, in words by Warshall, and in words in an\n"
            "order of the events, and for that order alone; to judge the faults of the sheet in C with each of these and by the archive; and the archive's\n"
-           "over that in C in the order. Medians.\n");
+           "time over that in C with rows in the order. Medians.\n");
     printf("%-24s   %-*s%s\n%-24s", "kind", 9 * WAYS + 3, "before and after", "fault", "");
     print_ways();
     print_ways();
-    printf(archive_present() ? " %8s %8s\n" : "\n", "archive", "over it");
+    printf(archive_present() ? " %8s %8s\n" : "\n", "archive", "over C");
     for (unsigned k = 0; k < all_kinds(); k++)
         differ += print_kind(kind_at(k), sheets_of(kind_at(k), sheets));
     return differ;
