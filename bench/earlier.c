@@ -1,7 +1,8 @@
 // Compares the archive with an earlier one: the fault call and the till server's, by turns.
 //
-// Both are loaded as shared libraries. How the linker lays out the same code makes up to a third of its time, so an archive that stands in this
-// program wouldn't be like one that is loaded.
+// Both are loaded as shared libraries, so that an archive beside itself gives 1. Where the linker puts the same code makes up to 1.4 times its
+// time: fault::examine of one archive took 43 or 61 microseconds on one sheet, by its address within 64 bytes. Of two archives, either may be
+// the luckier one.
 #include "earlier.h"
 
 #include "kinds.h"
@@ -98,7 +99,10 @@ static unsigned print_kind(const struct kind *kind, unsigned sheets, int *missed
     for (unsigned i = 0; i < sheets; i++) {
         any_sheet(&sheet, kind, i);
         choose_openings(&sheet, i);
-        differ += !compare(&sheet, calls, &fault[i], &judge[i]);
+        int agree = compare(&sheet, calls, &fault[i], &judge[i]);
+        if (!agree)
+            printf("differ: %s, sheet %u\n", kind->name, i);
+        differ += !agree;
     }
     double fault_middle = median(fault, sheets), judge_middle = median(judge, sheets);
     int misses_it = misses(kind, fault_middle);

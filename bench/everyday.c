@@ -44,14 +44,15 @@ static void up_to_a_dozen(struct order *order, struct random *r)
     everyday(order, r, draw(r, FEWEST, DOZEN));
 }
 
+// More than a dozen.
 static void up_to_forty(struct order *order, struct random *r)
 {
     everyday(order, r, draw(r, DOZEN + 1, FORTY));
 }
 
 const struct kind everyday_kinds[] = {
-    {"3 to 12 events", EVERYDAY, SHUFFLED, up_to_a_dozen},
-    {"13 to 40 events", EVERYDAY, SHUFFLED, up_to_forty},
+    {"everyday, to 12 events", EVERYDAY, SHUFFLED, up_to_a_dozen},
+    {"everyday, to 40 events", EVERYDAY, SHUFFLED, up_to_forty},
 };
 const unsigned everyday_count = sizeof everyday_kinds / sizeof *everyday_kinds;
 
