@@ -3,3 +3,4 @@ pub mod Sorted
 pub mod Steps
 pub mod Rows
 pub mod Cycle
+pub mod Arranged

@@ -4,12 +4,13 @@ use mathlib.Core.Bool.{_&&_}
 use mathlib.Core.List.{List}
 use mathlib.Core.Path.{_≡_}
 use lib.Dec.{eqb, ltb}
-use lib.ListN.{getD}
+use lib.ListN.{getD, replicate}
 use Rattle.finite.specs.Bounded.{any}
 use Rattle.finite.specs.Queue.{Queued}
 use Rattle.finite.specs.Subset.{Set}
+use Rattle.ids.specs.Limits.{mostEvents, mostPairs}
 use Rattle.plan.specs.Net.{Plan}
-use Rattle.sorting.specs.Waiting.{Waits}
+use Rattle.sorting.specs.Waiting.{Lists, Waits}
 
 -- the events below n that wait for nothing
 abbrev pub ready : ℕ → List ℕ → Set
@@ -31,3 +32,13 @@ module _ (P : Plan) where
     pub waits : Waits P (passed queue h) (P .pairs) left
     pub queued : Queued (P .events) (ready (P .events) left) queue n
     pub ordered : Ordered queue n
+
+  -- The pairs are listed, and the pairs of all n events of the queue are gone over.
+  pub record SortedTo (first next queue : List ℕ) (n : ℕ) : Type 0 where
+    pub lists : Lists P (P .pairs) first next
+    pub left : List ℕ
+    pub round : Round left queue n n
+
+-- rows that list nothing
+abbrev pub NoLists : List ℕ → List ℕ → Type 0
+NoLists first next = (first ≡ replicate mostEvents 0) × (next ≡ replicate mostPairs 0)

@@ -7,7 +7,7 @@ ghost use Rattle.finite.specs.Queue.{Queued};
 ghost use Rattle.ids.specs.Lent.{was, is};
 ghost use Rattle.ids.specs.Limits.{mostEvents, mostPairs};
 ghost use Rattle.sorting.specs.Rows.{planBy, PlanInRows, hasCycle};
-ghost use Rattle.sorting.specs.Sorted.{ready, Round};
+ghost use Rattle.sorting.specs.Sorted.{ready, Round, NoLists, SortedTo};
 ghost use Rattle.sorting.specs.Steps.{PairListed, Lowered};
 ghost use Rattle.sorting.specs.Waiting.{Lists, Listed};
 use ids::EVENTS;
@@ -132,6 +132,27 @@ fn sort(
     end
 }
 
+// Lists the pairs by their earlier events, and puts events into the queue, each after all that have a pair to it: all of them, unless the pairs have a
+// cycle. Returns how many they are.
+pub fn sort_events(
+    events: usize,
+    pairs: usize,
+    from: &[u8; PAIRS],
+    to: &[u8; PAIRS],
+    first: &mut [u16; EVENTS],
+    next: &mut [u16; PAIRS],
+    queue: &mut [u8; EVENTS],
+) -> usize
+    requires { ⌜ PlanInRows events pairs (now from) (now to) ⌝ }
+    requires { ⌜ NoLists (now first) (now next) ⌝ }
+    ensures { λ r. ⌜ SortedTo (planBy events pairs (was from) (was to)) (is first) (is next) (is queue) r ⌝ }
+{
+    let mut left = [0u16; EVENTS];
+    list_pairs(events, pairs, from, to, first, next, &mut left);
+    let tail = seed(events, &left, queue);
+    sort(events, pairs, from, to, first, next, &mut left, queue, tail)
+}
+
 // Whether the pairs have a cycle.
 pub fn has_cycle(events: usize, pairs: usize, from: &[u8; PAIRS], to: &[u8; PAIRS]) -> bool
     requires { ⌜ PlanInRows events pairs (now from) (now to) ⌝ }
@@ -139,20 +160,7 @@ pub fn has_cycle(events: usize, pairs: usize, from: &[u8; PAIRS], to: &[u8; PAIR
 {
     let mut first = [0u16; EVENTS];
     let mut next = [0u16; PAIRS];
-    let mut left = [0u16; EVENTS];
     let mut queue = [0u8; EVENTS];
-    list_pairs(events, pairs, from, to, &mut first, &mut next, &mut left);
-    let tail = seed(events, &left, &mut queue);
-    let sorted = sort(
-        events,
-        pairs,
-        from,
-        to,
-        &first,
-        &next,
-        &mut left,
-        &mut queue,
-        tail,
-    );
+    let sorted = sort_events(events, pairs, from, to, &mut first, &mut next, &mut queue);
     sorted < events
 }
