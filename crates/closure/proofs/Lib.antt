@@ -1,2 +1,3 @@
-mod Rounds
-mod Cycle
+mod Carrying
+mod Along
+mod Order

@@ -1,5 +1,5 @@
-pub mod Reach
-pub mod ClosedRows
 pub mod Ordered
 pub mod Between
 pub mod PlanRows
+pub mod Carried
+pub mod InOrder

@@ -1,48 +1,123 @@
-// The closure of the order pairs, in rows of marks: by Warshall, in place. Whether it has a cycle, and which pairs are skeleton pairs.
-ghost use Prim.Native.Nat.{_<_, _≤_};
+// "Before" in rows of marks, worked out pair by pair: events are taken in an order in which what is before comes first, and each pair has the row of
+// its one event joined into that of the other once. Which pairs are skeleton pairs.
+// The numbers of events and pairs and the row `from` say which plan it is; they aren't read.
+ghost use Prim.Native.Nat.{_+_, _<_};
 ghost use mathlib.Core.Bool.{not};
 ghost use mathlib.Core.Path.{_≡_};
+ghost use Rattle.closure.specs.Carried.{Within, RowCarried};
+ghost use Rattle.closure.specs.InOrder.{AheadTo, AfterFrom};
+ghost use Rattle.closure.specs.PlanRows.{Successors, Predecessors};
 ghost use Rattle.ids.specs.Lent.{was, is};
 ghost use Rattle.ids.specs.Limits.{mostEvents};
 ghost use Rattle.marks.specs.Marks.{meeting};
-ghost use Rattle.closure.specs.ClosedRows.{cyclic, ClosedRows, ClosedRowsBy};
+ghost use Rattle.sorting.specs.Arranged.{Sorted};
+ghost use Rattle.sorting.specs.Rows.{planBy};
+use ids::EVENTS;
 use ids::Event;
+use ids::PAIRS;
 use ids::ROWS;
 
-// Whatever reaches k now reaches what k reaches. Row k stays as it is.
-fn close_by(rows: &mut [u32; ROWS], k: Event, n: usize)
-    requires { ⌜ n ≤ mostEvents ⌝ }
-    requires { ⌜ k .0 < n ⌝ }
-    ensures { λ _. ⌜ ClosedRowsBy (was rows) (is rows) (k .0) n ⌝ }
+// Joins the row of one event, and the event itself, into the row of another.
+fn carry(rows: &mut [u32; ROWS], one: Event, other: Event)
+    requires { ⌜ (one .0 < mostEvents) × (other .0 < mostEvents) ⌝ }
+    ensures { λ _. ⌜ RowCarried (was rows) (is rows) (one .0) (other .0) ⌝ }
 {
-    for i in 0..n {
-        if marks::is_marked(rows, i, k.0) {
-            marks::join(rows, k.0, i);
-        }
+    marks::join(rows, one.0, other.0);
+    marks::mark(rows, other.0, one.0);
+}
+
+// What is before the event at h in the queue is before those that it has a pair to, and so is the event.
+fn carry_ahead(
+    events: usize,
+    pairs: usize,
+    from: &[u8; PAIRS],
+    to: &[u8; PAIRS],
+    first: &[u16; EVENTS],
+    next: &[u16; PAIRS],
+    queue: &[u8; EVENTS],
+    h: usize,
+    rows: &mut [u32; ROWS],
+)
+    requires { ⌜ Sorted events pairs (now from) (now to) (now first) (now next) (now queue) × (h < events) ⌝ }
+    requires { ⌜ AheadTo (planBy events pairs (now from) (now to)) (now queue) h (now rows) ⌝ }
+    ensures { λ _. ⌜ AheadTo (planBy events pairs (was from) (was to)) (was queue) (h + 1) (is rows) ⌝ }
+{
+    let u = queue[h] as usize;
+    let mut at = first[u] as usize;
+    while at > 0 {
+        let i = at - 1;
+        let v = to[i] as usize;
+        carry(rows, Event(u), Event(v));
+        at = next[i] as usize;
     }
 }
 
-// Closes the first n rows under chains.
-pub fn close(rows: &mut [u32; ROWS], n: usize)
-    requires { ⌜ n ≤ mostEvents ⌝ }
-    ensures { λ _. ⌜ ClosedRows (was rows) (is rows) n n ⌝ }
+// Rows of what is before each event, from rows that mark no more than that.
+pub fn close_ahead(
+    events: usize,
+    pairs: usize,
+    from: &[u8; PAIRS],
+    to: &[u8; PAIRS],
+    first: &[u16; EVENTS],
+    next: &[u16; PAIRS],
+    queue: &[u8; EVENTS],
+    rows: &mut [u32; ROWS],
+)
+    requires { ⌜ Sorted events pairs (now from) (now to) (now first) (now next) (now queue) ⌝ }
+    requires { ⌜ Within (planBy events pairs (now from) (now to)) (now rows) ⌝ }
+    ensures { λ _. ⌜ Predecessors (planBy events pairs (was from) (was to)) (is rows) ⌝ }
 {
-    for k in 0..n {
-        close_by(rows, Event(k), n);
+    for h in 0..events {
+        carry_ahead(events, pairs, from, to, first, next, queue, h, rows);
     }
 }
 
-// Whether some event is marked in its own row: in closed rows, whether there is a cycle.
-pub fn has_cycle(rows: &[u32; ROWS], n: usize) -> bool
-    requires { ⌜ n ≤ mostEvents ⌝ }
-    ensures { λ r. ⌜ r ≡ cyclic (was rows) n ⌝ }
+// What is after those that the event at h in the queue has a pair to is after the event, and so are they.
+fn carry_after(
+    events: usize,
+    pairs: usize,
+    from: &[u8; PAIRS],
+    to: &[u8; PAIRS],
+    first: &[u16; EVENTS],
+    next: &[u16; PAIRS],
+    queue: &[u8; EVENTS],
+    h: usize,
+    rows: &mut [u32; ROWS],
+)
+    requires { ⌜ Sorted events pairs (now from) (now to) (now first) (now next) (now queue) × (h < events) ⌝ }
+    requires { ⌜ AfterFrom (planBy events pairs (now from) (now to)) (now queue) (h + 1) (now rows) ⌝ }
+    ensures { λ _. ⌜ AfterFrom (planBy events pairs (was from) (was to)) (was queue) h (is rows) ⌝ }
 {
-    for v in 0..n {
-        if marks::is_marked(rows, v, v) {
-            return true;
-        }
+    let u = queue[h] as usize;
+    let mut at = first[u] as usize;
+    while at > 0 {
+        let i = at - 1;
+        let v = to[i] as usize;
+        carry(rows, Event(v), Event(u));
+        at = next[i] as usize;
     }
-    false
+}
+
+// Rows of what is after each event, from rows that mark no more than that; the events from the last to the first.
+pub fn close_after(
+    events: usize,
+    pairs: usize,
+    from: &[u8; PAIRS],
+    to: &[u8; PAIRS],
+    first: &[u16; EVENTS],
+    next: &[u16; PAIRS],
+    queue: &[u8; EVENTS],
+    rows: &mut [u32; ROWS],
+)
+    requires { ⌜ Sorted events pairs (now from) (now to) (now first) (now next) (now queue) ⌝ }
+    requires { ⌜ Within (planBy events pairs (now to) (now from)) (now rows) ⌝ }
+    ensures { λ _. ⌜ Successors (planBy events pairs (was from) (was to)) (is rows) ⌝ }
+{
+    let mut h = events;
+    while h > 0 {
+        h -= 1;
+        carry_after(events, pairs, from, to, first, next, queue, h, rows);
+    }
 }
 
 // Whether nothing lies between a and b, where `succ` marks what is after a row's event and `pred` what is before it.

@@ -13,7 +13,6 @@ use Rattle.sheet.specs.Faults.{faultOf}
 use Rattle.sheet.specs.Faultless.{Faultless, faultless}
 use Rattle.layout.specs.Layout.{LayoutOf, WithinLimits}
 use Rattle.layout.specs.declared.Layout.{Layout}
-use Rattle.order.specs.Rows.{OrderRows}
 use Rattle.fault.specs.declared.Examined.{Examined}
 use Rattle.calls.specs.Call.{placeFault, place-known, row-known}
 use Rattle.calls.specs.FlowRow.{flowLength, flowOf, flowFault}
@@ -30,8 +29,8 @@ counted few next =
 
 module _ (s : List ℕ) (p : ℕ) (row : List ℕ) where
   -- An examined sheet, the test of the place and that of the row.
-  module _ {succ pred : List ℕ} {e r t : Examined} (is : e .fault ≡ faultOf s)
-      (laid : e .fault .number ≡ 0 → LayoutOf s (e .layout) × OrderRows (planOf s) succ pred) (q : ℕ) (asked : q ≡ p)
+  module _ {X : Type 0} {e r t : Examined} (is : e .fault ≡ faultOf s)
+      (laid : e .fault .number ≡ 0 → LayoutOf s (e .layout) × X) (q : ℕ) (asked : q ≡ p)
       (placed : Next e (leb (e .layout .places) q) 12 r)
       (needed : ℕ) (due : needed ≡ r .layout .pairs + r .layout .events) (rowed : Next r (ltb (length row) needed) 13 t) where
     place : FaultTold s (placeFault s p) r
@@ -56,7 +55,7 @@ module _ (s : List ℕ) (p : ℕ) (row : List ℕ) where
       none = sym number-is ∙ clear
 
       pub ready : (Faultless s × LayoutOf s (r .layout))
-          × ((p < r .layout .places) × (r .layout .pairs + r .layout .events ≤ length row)) × OrderRows (planOf s) succ pred
+          × ((p < r .layout .places) × (r .layout .pairs + r .layout .events ≤ length row)) × X
       unfolding flowFault
       ready =
           let long = row-known (placeFault s p) row (flowLength s) none in

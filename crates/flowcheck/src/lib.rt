@@ -28,6 +28,7 @@ use lookup::gives;
 use lookup::label;
 use lookup::opening;
 use lookup::takes;
+use order::Wanted;
 use rules::covers;
 use rules::keeps;
 use sheet::Fault;
@@ -115,7 +116,11 @@ pub fn check_flow(s: &[u8], p: Place, row: &[u32]) -> Checked
 {
     let mut succ = [0u32; ROWS];
     let mut pred = [0u32; ROWS];
-    let placed = with_place(examine(s, &mut succ, &mut pred), p);
+    let wanted = Wanted {
+        ahead: true,
+        after: true,
+    };
+    let placed = with_place(examine(s, wanted, &mut succ, &mut pred), p);
     let l = placed.layout;
     let found = with_row(placed, row.len(), l.pairs + l.events);
     let f = found.fault;

@@ -1,11 +1,10 @@
 // A place settled from rows, without a sheet: from what each event gives and takes there, and what is before what, comes a tokenflow with
 // the least lack. So another place, which no sheet has, can be settled by the same function.
-ghost use Prim.Native.Nat.{ℕ, _≤_};
+ghost use Prim.Native.Nat.{_≤_};
 ghost use mathlib.Core.Path.{_≡_};
 ghost use Rattle.finite.specs.Sum.{sumOf};
 ghost use Rattle.ids.specs.Lent.{was, is};
 ghost use Rattle.ids.specs.Limits.{mostEvents};
-ghost use Rattle.plan.specs.Net.{Net, Plan};
 ghost use Rattle.least.specs.PlaceRows.{RowsFor, Small, SomePlace};
 ghost use Rattle.least.specs.Settled.{Settles};
 use drawing::draw_all;

@@ -28,6 +28,7 @@ use lines::LISTING_ROOM;
 use lines::put_plan;
 use lines::put_refused;
 use lines::put_totals;
+use order::Wanted;
 use place_lines::put_places;
 use plan_judgement::above_openings;
 use plan_judgement::count_all;
@@ -86,7 +87,11 @@ fn put_listing(s: &[u8], row: &mut [u8]) -> usize
 {
     let mut succ = [0u32; ROWS];
     let mut pred = [0u32; ROWS];
-    let e = examine(s, &mut succ, &mut pred);
+    let wanted = Wanted {
+        ahead: true,
+        after: false,
+    };
+    let e = examine(s, wanted, &mut succ, &mut pred);
     let f = e.fault;
     if f.number != 0 {
         return put_refused(row, 0, f.number);

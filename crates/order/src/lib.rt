@@ -1,15 +1,28 @@
 // Faults 10 and 11, and the order of a sheet's plan in rows of marks. The faults of the layout and 8 are absent.
+ghost use Prim.Native.Nat.{_<_};
+ghost use mathlib.Core.Bool.{false};
 ghost use mathlib.Core.Path.{_≡_};
 ghost use mathlib.Core.Option.{none};
-ghost use Rattle.ids.specs.Lent.{is};
+ghost use lib.Dec.{T};
+ghost use lib.ListN.{length};
+ghost use Rattle.closure.specs.Carried.{Within};
+ghost use Rattle.closure.specs.PlanRows.{Successors, Predecessors};
+ghost use Rattle.finite.specs.Queue.{Stored};
+ghost use Rattle.ids.specs.Lent.{was, is};
+ghost use Rattle.ids.specs.Limits.{mostEvents};
 ghost use Rattle.sheet.specs.Table.{pairsOf};
 ghost use Rattle.sheet.specs.Items.{planOf};
 ghost use Rattle.sheet.specs.Faults.{noEvent, repeated, orderFaults, firstFault};
 ghost use Rattle.sheet.specs.Told.{tell};
+ghost use Rattle.sorting.specs.Arranged.{Sorted};
+ghost use Rattle.sorting.specs.Rows.{planBy, PlanInRows, hasCycle};
 ghost use Rattle.layout.specs.Layout.{LaidBy};
-ghost use Rattle.order.specs.Rows.{Blank, PairsMarked, OrderRows};
-use closure::close;
-use closure::has_cycle;
+ghost use Rattle.order.specs.Rows.{Blank, PairsHeld, WantedRows};
+use closure::close_after;
+use closure::close_ahead;
+use ids::EVENTS;
+use ids::Event;
+use ids::PAIRS;
 use ids::ROWS;
 use layout::Layout;
 use lookup::earlier;
@@ -20,15 +33,38 @@ use sheet::Fault;
 use sheet::item_fault;
 use sheet::no_fault;
 use sheet::plain_fault;
+use sorting::sort_events;
 
-// 10: pair given twice; the item is the first that repeats an earlier one. Marks each pair (a, b) in row a of `succ` and in row b of `pred`,
-// up to a repeat.
-pub fn mark_pairs(s: &[u8], l: Layout, succ: &mut [u32; ROWS], pred: &mut [u32; ROWS]) -> Fault
+// The rows that a caller wants: of what is before each event, of what is after it. A fault is told without either.
+pub struct Wanted {
+    pub ahead: bool,
+    pub after: bool,
+}
+
+// Puts the ends of pair i into the rows.
+fn put_pair(i: usize, a: Event, b: Event, from: &mut [u8], to: &mut [u8])
+    requires { ⌜ (a .0 < mostEvents) × (b .0 < mostEvents) ⌝ }
+    requires { ⌜ (i < length (now from)) × (i < length (now to)) ⌝ }
+    ensures { λ _. ⌜ Stored (was from) (is from) i (a .0) × Stored (was to) (is to) i (b .0) ⌝ }
+{
+    from[i] = a.0 as u8;
+    to[i] = b.0 as u8;
+}
+
+// 10: pair given twice; the item is the first that repeats an earlier one. Marks each pair (a, b) in row a, and puts its ends into two rows, up
+// to a repeat.
+pub fn mark_pairs(
+    s: &[u8],
+    l: Layout,
+    succ: &mut [u32; ROWS],
+    from: &mut [u8; PAIRS],
+    to: &mut [u8; PAIRS],
+) -> Fault
     requires { ⌜ LaidBy (now s) l ⌝ }
     requires { ⌜ noEvent (now s) ≡ none ⌝ }
-    requires { ⌜ Blank (now succ) × Blank (now pred) ⌝ }
+    requires { ⌜ Blank (now succ) ⌝ }
     ensures { λ r. ⌜ r ≡ tell 10 (repeated (now (s .entry))) ⌝ }
-    ensures { λ r. ⌜ (r .number ≡ 0 → PairsMarked (planOf (now (s .entry))) (pairsOf (now (s .entry))) (is succ) (is pred)) ⌝ }
+    ensures { λ r. ⌜ (r .number ≡ 0 → PairsHeld (planOf (was s)) (pairsOf (was s)) (is succ) (is from) (is to)) ⌝ }
 {
     for i in 0..l.pairs {
         let a = earlier(s, l, i);
@@ -37,28 +73,123 @@ pub fn mark_pairs(s: &[u8], l: Layout, succ: &mut [u32; ROWS], pred: &mut [u32; 
             return item_fault(10, i);
         }
         mark(succ, a.0, b.0);
-        mark(pred, b.0, a.0);
+        put_pair(i, a, b, from, to);
     }
     no_fault()
 }
 
-// The first of faults 10 and 11. If there is none, `succ` marks what is after each event and `pred` what is before it.
-pub fn order_fault(s: &[u8], l: Layout, succ: &mut [u32; ROWS], pred: &mut [u32; ROWS]) -> Fault
+// Fills the rows of what is before each event, if they are wanted.
+fn fill_ahead(
+    wanted: bool,
+    events: usize,
+    pairs: usize,
+    from: &[u8; PAIRS],
+    to: &[u8; PAIRS],
+    first: &[u16; EVENTS],
+    next: &[u16; PAIRS],
+    queue: &[u8; EVENTS],
+    pred: &mut [u32; ROWS],
+)
+    requires { ⌜ Sorted events pairs (now from) (now to) (now first) (now next) (now queue) ⌝ }
+    requires { ⌜ Within (planBy events pairs (now from) (now to)) (now pred) ⌝ }
+    ensures { λ _. ⌜ (T wanted → Predecessors (planBy events pairs (was from) (was to)) (is pred)) ⌝ }
+{
+    if wanted {
+        close_ahead(events, pairs, from, to, first, next, queue, pred);
+    }
+}
+
+// Fills the rows of what is after each event, if they are wanted.
+fn fill_after(
+    wanted: bool,
+    events: usize,
+    pairs: usize,
+    from: &[u8; PAIRS],
+    to: &[u8; PAIRS],
+    first: &[u16; EVENTS],
+    next: &[u16; PAIRS],
+    queue: &[u8; EVENTS],
+    succ: &mut [u32; ROWS],
+)
+    requires { ⌜ Sorted events pairs (now from) (now to) (now first) (now next) (now queue) ⌝ }
+    requires { ⌜ Within (planBy events pairs (now to) (now from)) (now succ) ⌝ }
+    ensures { λ _. ⌜ (T wanted → Successors (planBy events pairs (was from) (was to)) (is succ)) ⌝ }
+{
+    if wanted {
+        close_after(events, pairs, from, to, first, next, queue, succ);
+    }
+}
+
+// Whether the pairs have a cycle. If they have none, fills the rows that are wanted.
+fn arrange(
+    wanted: Wanted,
+    events: usize,
+    pairs: usize,
+    from: &[u8; PAIRS],
+    to: &[u8; PAIRS],
+    succ: &mut [u32; ROWS],
+    pred: &mut [u32; ROWS],
+) -> bool
+    requires { ⌜ PlanInRows events pairs (now from) (now to) ⌝ }
+    requires { ⌜ Within (planBy events pairs (now to) (now from)) (now succ) ⌝ }
+    requires { ⌜ Within (planBy events pairs (now from) (now to)) (now pred) ⌝ }
+    ensures { λ r. ⌜ r ≡ hasCycle (planBy events pairs (was from) (was to)) ⌝ }
+    ensures { λ r. ⌜ (r ≡ false → WantedRows wanted (planBy events pairs (was from) (was to)) (is succ) (is pred)) ⌝ }
+{
+    let mut first = [0u16; EVENTS];
+    let mut next = [0u16; PAIRS];
+    let mut queue = [0u8; EVENTS];
+    let sorted = sort_events(events, pairs, from, to, &mut first, &mut next, &mut queue);
+    if sorted < events {
+        return true;
+    }
+    fill_ahead(
+        wanted.ahead,
+        events,
+        pairs,
+        from,
+        to,
+        &first,
+        &next,
+        &queue,
+        pred,
+    );
+    fill_after(
+        wanted.after,
+        events,
+        pairs,
+        from,
+        to,
+        &first,
+        &next,
+        &queue,
+        succ,
+    );
+    false
+}
+
+// The first of faults 10 and 11. If there is none, `succ` marks what is after each event and `pred` what is before it, where that is wanted.
+pub fn order_fault(
+    s: &[u8],
+    l: Layout,
+    wanted: Wanted,
+    succ: &mut [u32; ROWS],
+    pred: &mut [u32; ROWS],
+) -> Fault
     requires { ⌜ LaidBy (now s) l ⌝ }
     requires { ⌜ noEvent (now s) ≡ none ⌝ }
     requires { ⌜ Blank (now succ) × Blank (now pred) ⌝ }
     ensures { λ r. ⌜ r ≡ firstFault orderFaults (now (s .entry)) ⌝ }
-    ensures { λ r. ⌜ (r .number ≡ 0 → OrderRows (planOf (now (s .entry))) (is succ) (is pred)) ⌝ }
+    ensures { λ r. ⌜ (r .number ≡ 0 → WantedRows wanted (planOf (was s)) (is succ) (is pred)) ⌝ }
 {
-    let repeat = mark_pairs(s, l, succ, pred);
+    let mut from = [0u8; PAIRS];
+    let mut to = [0u8; PAIRS];
+    let repeat = mark_pairs(s, l, succ, &mut from, &mut to);
     if repeat.number != 0 {
         return repeat;
     }
-    let events = l.events;
-    close(succ, events);
-    if has_cycle(succ, events) {
+    if arrange(wanted, l.events, l.pairs, &from, &to, succ, pred) {
         return plain_fault(11);
     }
-    close(pred, events);
     no_fault()
 }

@@ -20,6 +20,7 @@ use ids::SMALL_SQUARE;
 use ids::SQUARE;
 use ids::WORDS;
 use layout::Layout;
+use order::Wanted;
 use place::place_counts;
 use sheet::Fault;
 
@@ -151,7 +152,11 @@ pub fn judge_place(s: &[u8], p: Place, flow: &mut [u32], marks: &mut [u8]) -> Ju
 {
     let mut succ = [0u32; ROWS];
     let mut pred = [0u32; ROWS];
-    let seen = examine(s, &mut succ, &mut pred);
+    let wanted = Wanted {
+        ahead: true,
+        after: true,
+    };
+    let seen = examine(s, wanted, &mut succ, &mut pred);
     let placed = with_place(seen, p);
     let numbered = with_row(
         placed,

@@ -30,6 +30,7 @@ use ids::SQUARE;
 use ids::WORDS;
 use layout::Layout;
 use lookup::opening;
+use order::Wanted;
 use place::above;
 use place::settle_place;
 use ranks::event_order;
@@ -265,7 +266,11 @@ pub fn judge_plan(s: &[u8], row: &mut [u32]) -> Answer
 {
     let mut succ = [0u32; ROWS];
     let mut pred = [0u32; ROWS];
-    let seen = examine(s, &mut succ, &mut pred);
+    let wanted = Wanted {
+        ahead: true,
+        after: false,
+    };
+    let seen = examine(s, wanted, &mut succ, &mut pred);
     let e = with_row(seen, row.len(), seen.layout.places);
     let f = e.fault;
     if f.number != 0 {

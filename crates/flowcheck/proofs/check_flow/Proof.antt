@@ -1,6 +1,7 @@
 -- The chain of faults comes first: the sheet's own, the place's and the row's. Where there is none the rules decide.
 use native.Mathlib.Omega.{arith}
 use borrow.Author.Needs.{needs}
+use Rattle.order.specs.Rows.{both-wanted}
 use Rattle.flowcheck.proofs.Answers.{counted, fault-told, ready, yes-told, no-told}
 use Rattle.flowcheck.proofs.check_flow.Statement.{statement}
 use Rattle.flowcheck.proofs.check_flow.Tie as tie
@@ -28,7 +29,7 @@ is-valid-requires c κs =
     let clear : tie.Else1 = search in
     let start : tie.Start = search in
     let known = ready _ (start .args .p .0) (start .args .row .now) (is .0) (is .1 .1) _ (omega arith) (placed .with-place .ensures) _ (omega arith) (found .with-row .ensures) (clear .if1 .left) in
-    (known .0, (known .1, known .2))
+    (known .0, (known .1, both-wanted _ _ _ _ tt tt (known .2)))
 
 returns-2 : tie.Need-returns-2
 returns-2 c =

@@ -20,7 +20,7 @@ put-lines-requires c κs =
     let seen : tie.After-examine = search in
     let clear : seen .examine .result .fault .number ≡ 0 = omega arith in
     let handed = seen .examine .ensures .1 .1 clear in
-    (faultless _ (ap (λ (f : Fault). f .number) (sym (seen .examine .ensures .0)) ∙ clear), (handed .0, (handed .1 .ahead, start .pre)))
+    (faultless _ (ap (λ (f : Fault). f .number) (sym (seen .examine .ensures .0)) ∙ clear), (handed .0, (handed .1 .ahead tt, start .pre)))
 
 returns-2 : tie.Need-returns-2
 returns-2 c =

@@ -30,7 +30,7 @@ count-all-requires c κs =
     let none = else .if1 .left in
     let seen : tie.After-examine = search in
     let order = seen .examine .ensures .1 .1 (ap (λ (f : Fault). f .number) (seen .examine .ensures .0) ∙ taken _ _ _ e none) .1 in
-    (known _ _ _ e none, laid _ _ _ e none, order .ahead, long _ _ _ e none)
+    (known _ _ _ e none, laid _ _ _ e none, order .ahead tt, long _ _ _ e none)
 
 sum-up-requires : tie.Need-sum-up-requires
 sum-up-requires c κs =
