@@ -31,28 +31,18 @@ static void threads(struct order *order, struct random *r, unsigned events)
     }
 }
 
-static void everyday(struct order *order, struct random *r, unsigned events)
+static void everyday(struct order *order, struct random *r)
 {
+    unsigned events = draw(r, FEWEST, FORTY);
+
     if (random_below(r, 2) == 0)
         scattered(order, r, events);
     else
         threads(order, r, events);
 }
 
-static void up_to_a_dozen(struct order *order, struct random *r)
-{
-    everyday(order, r, draw(r, FEWEST, DOZEN));
-}
-
-// More than a dozen.
-static void up_to_forty(struct order *order, struct random *r)
-{
-    everyday(order, r, draw(r, DOZEN + 1, FORTY));
-}
-
 const struct kind everyday_kinds[] = {
-    {"everyday, to 12 events", EVERYDAY, SHUFFLED, up_to_a_dozen},
-    {"everyday, to 40 events", EVERYDAY, SHUFFLED, up_to_forty},
+    {"everyday", EVERYDAY, SHUFFLED, everyday},
 };
 const unsigned everyday_count = sizeof everyday_kinds / sizeof *everyday_kinds;
 
