@@ -1,5 +1,5 @@
-// How much stack each call uses, on sheets at the limits of every kind: each is made on a stack of its own that is painted before and
-// scanned after. Fails where a call uses more than the header says is enough.
+// How much stack each call uses, on sheets at the limits of every kind and on sheets of small plans: each is made on a stack of its own that is
+// painted before and scanned after. Fails where a call uses more than the header says is enough.
 #define _GNU_SOURCE
 #include <stdio.h>
 #include <stdlib.h>
@@ -13,7 +13,12 @@
 #include "reedanchor.h"
 #include "sheets.h"
 
-enum { STACK_BYTES = 4 << 20, PAINT = 0xa5, NUMBERS = 2, PLACE_STEP = 9 };
+enum { STACK_BYTES = 4 << 20, PAINT = 0xa5, NUMBERS = 2, SMALL_PLANS = 8, PLACE_STEP = 9 };
+
+// The sizes of a plan that the header has numbers for.
+enum size { UP_TO_256, UP_TO_64, UP_TO_16, SIZES };
+
+static const unsigned most_events[SIZES] = {MAX_EVENTS, 64, 16};
 
 static struct sheet sheet;
 static size_t place;
@@ -74,21 +79,22 @@ static void call_mend(void)
 static struct {
     const char *name;
     void (*make)(void);
-    size_t enough, most; // bytes by the header, and the most used
+    size_t enough[SIZES], most[SIZES]; // bytes by the header, and the most used
     int at_places, mends;
 } calls[] = {
-    {"judge", call_judge, REEDANCHOR_STACK_JUDGE, 0, 0, 0},
-    {"fault", call_fault, REEDANCHOR_STACK_FAULT, 0, 0, 0},
-    {"plan", call_plan, REEDANCHOR_STACK_PLAN, 0, 0, 0},
-    {"place", call_place, REEDANCHOR_STACK_PLACE, 0, 1, 0},
-    {"check_flow", call_check_flow, REEDANCHOR_STACK_CHECK_FLOW, 0, 1, 0},
-    {"listing", call_listing, REEDANCHOR_STACK_LISTING, 0, 0, 0},
-    {"mend", call_mend, REEDANCHOR_STACK_MEND, 0, 0, 1},
+    {"judge", call_judge, {REEDANCHOR_STACK_JUDGE, REEDANCHOR_STACK_JUDGE_64, REEDANCHOR_STACK_JUDGE_16}, {0}, 0, 0},
+    {"fault", call_fault, {REEDANCHOR_STACK_FAULT, REEDANCHOR_STACK_FAULT, REEDANCHOR_STACK_FAULT}, {0}, 0, 0},
+    {"plan", call_plan, {REEDANCHOR_STACK_PLAN, REEDANCHOR_STACK_PLAN_64, REEDANCHOR_STACK_PLAN_16}, {0}, 0, 0},
+    {"place", call_place, {REEDANCHOR_STACK_PLACE, REEDANCHOR_STACK_PLACE_64, REEDANCHOR_STACK_PLACE_16}, {0}, 1, 0},
+    {"check_flow", call_check_flow, {REEDANCHOR_STACK_CHECK_FLOW, REEDANCHOR_STACK_CHECK_FLOW, REEDANCHOR_STACK_CHECK_FLOW}, {0}, 1, 0},
+    {"listing", call_listing, {REEDANCHOR_STACK_LISTING, REEDANCHOR_STACK_LISTING_64, REEDANCHOR_STACK_LISTING_16}, {0}, 0, 0},
+    {"mend", call_mend, {REEDANCHOR_STACK_MEND, REEDANCHOR_STACK_MEND, REEDANCHOR_STACK_MEND}, {0}, 0, 1},
 };
 
 enum { CALLS = sizeof calls / sizeof *calls };
 
 static uint8_t *stack; // STACK_BYTES of it, above a forbidden page
+static enum size size; // that of the sheet's plan
 
 static void open_stack(void)
 {
@@ -127,10 +133,10 @@ static void measure(unsigned call)
 {
     size_t used = used_by(calls[call].make);
 
-    if (used > calls[call].most)
-        calls[call].most = used;
+    if (used > calls[call].most[size])
+        calls[call].most[size] = used;
     if (fault != 0 && (call != 0 || fault < REEDANCHOR_SHORT)) {
-        fprintf(stderr, "stack: %s refuses a sheet at the limits: %u\n", calls[call].name, fault);
+        fprintf(stderr, "stack: %s refuses a sheet: %u\n", calls[call].name, fault);
         exit(1);
     }
 }
@@ -171,25 +177,47 @@ static void measure_mending(struct random *r)
             measure(call);
 }
 
+static void measure_sheet(struct random *r)
+{
+    set_openings();
+    measure_all();
+    measure_mending(r);
+}
+
+// Prints the most that each call used on plans of this size. Returns whether that is within what the header says.
+static int print_used(enum size of, unsigned sheets)
+{
+    int enough = 1;
+
+    printf("bytes of stack, at most, on %u sheets of up to %u events:", sheets, most_events[of]);
+    for (unsigned call = 0; call < CALLS; call++) {
+        printf("%s %s %zu of %zu", call == 0 ? "" : ",", calls[call].name, calls[call].most[of], calls[call].enough[of]);
+        enough = enough && calls[call].most[of] <= calls[call].enough[of];
+    }
+    printf("\n");
+    return enough;
+}
+
 int main(void)
 {
     struct random r = {13};
-    int enough = 1;
+    int enough;
 
     open_stack();
     for (unsigned kind = 0; kind < kind_count; kind++)
         for (unsigned number = 0; number < NUMBERS; number++) {
             sheet_of_kind(&sheet, &kinds[kind], number);
-            set_openings();
-            measure_all();
-            measure_mending(&r);
+            measure_sheet(&r);
         }
-    printf("bytes of stack, at most, on %u sheets at the limits:", kind_count * NUMBERS);
-    for (unsigned call = 0; call < CALLS; call++) {
-        printf("%s %s %zu of %zu", call == 0 ? "" : ",", calls[call].name, calls[call].most, calls[call].enough);
-        enough = enough && calls[call].most <= calls[call].enough;
+    enough = print_used(UP_TO_256, kind_count * NUMBERS);
+    for (size = UP_TO_64; size < SIZES; size++) {
+        for (unsigned number = 0; number < SMALL_PLANS; number++) {
+            unsigned events = most_events[size], pairs = number % 2 == 0 ? events : 4 * events;
+            sheet_of_size(&sheet, MAX_PLACES, events, pairs, number);
+            measure_sheet(&r);
+        }
+        enough &= print_used(size, SMALL_PLANS);
     }
-    printf("\n");
     if (!enough)
         fprintf(stderr, "stack: a call uses more than include/reedanchor.h says is enough\n");
     return enough ? 0 : 1;

@@ -19,8 +19,8 @@
  * Overlaps    What a call writes may not overlap with anything else that it is given: rows and numbers are all apart.
  * Threads     There is no state, nothing is kept after the call, and no memory is allocated. Calls may run at once in several threads if
  *             what one of them writes isn't given to another meanwhile. Every call ends.
- * Stack       The working rows stand on the caller's stack. The REEDANCHOR_STACK_.. numbers are bytes that suffice for a call of that
- *             name, on any sheet, below the caller's own frame.
+ * Stack       The working rows stand on the caller's stack, as long as the plan needs. The REEDANCHOR_STACK_.. numbers are bytes that suffice for
+ *             a call of that name, below the caller's own frame.
  */
 #ifndef REEDANCHOR_H
 #define REEDANCHOR_H
@@ -60,13 +60,22 @@ extern "C" {
     ((uint32_t)(sheet)[8 * (entry) + 4] | (uint32_t)(sheet)[8 * (entry) + 5] << 8 |                             \
      (uint32_t)(sheet)[8 * (entry) + 6] << 16 | (uint32_t)(sheet)[8 * (entry) + 7] << 24)
 
-/* The stack that suffices for each call, in bytes. */
+/* The stack that suffices for each call, in bytes: on any sheet, and, where that is less, on one whose plan has at most 64 events, or at
+ * most 16. */
 #define REEDANCHOR_STACK_JUDGE (384 * 1024)
+#define REEDANCHOR_STACK_JUDGE_64 (160 * 1024)
+#define REEDANCHOR_STACK_JUDGE_16 (96 * 1024)
 #define REEDANCHOR_STACK_FAULT (32 * 1024)
 #define REEDANCHOR_STACK_PLAN (384 * 1024)
-#define REEDANCHOR_STACK_PLACE (1024 * 1024)
+#define REEDANCHOR_STACK_PLAN_64 (160 * 1024)
+#define REEDANCHOR_STACK_PLAN_16 (96 * 1024)
+#define REEDANCHOR_STACK_PLACE (384 * 1024)
+#define REEDANCHOR_STACK_PLACE_64 (160 * 1024)
+#define REEDANCHOR_STACK_PLACE_16 (96 * 1024)
 #define REEDANCHOR_STACK_CHECK_FLOW (32 * 1024)
 #define REEDANCHOR_STACK_LISTING (384 * 1024)
+#define REEDANCHOR_STACK_LISTING_64 (160 * 1024)
+#define REEDANCHOR_STACK_LISTING_16 (96 * 1024)
 #define REEDANCHOR_STACK_MEND (16 * 1024)
 
 enum {

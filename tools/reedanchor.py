@@ -72,7 +72,7 @@ mend(sheet)                     Mended: the clean sheet, and why each pair of th
 
 A sheet is any bytes-like object, of any length and content. It is neither changed nor kept. Besides Fault, a call raises TypeError or ValueError for
 arguments of a wrong type or range, and NotBuilt where the library can't be loaded. Calls may be made in several threads at once, and run beside each
-other; a thread needs 1 MiB of stack for them.
+other; a thread needs 384 KiB of stack for them.
 """
 import ctypes
 import functools
