@@ -87,7 +87,7 @@ static int compare(const struct sheet *sheet, unsigned calls, double *fault_rati
 // Whether the ratio, as it is printed, is above the bar.
 static int misses(const struct kind *kind, double ratio)
 {
-    return (int)(100 * ratio + 0.5) > (kind->group == EVERYDAY ? MOST_EVERYDAY : MOST);
+    return (int)(100 * ratio + 0.5) > (kind_is_everyday(kind) ? MOST_EVERYDAY : MOST);
 }
 
 static unsigned print_kind(const struct kind *kind, unsigned sheets, int *missed)

@@ -43,13 +43,14 @@ static void everyday(struct order *order, struct random *r)
 
 const struct kind everyday_kinds[] = {
     {"everyday", EVERYDAY, SHUFFLED, everyday},
+    {"everyday, repeated", EVERYDAY_REPEATED, SHUFFLED, everyday},
 };
 const unsigned everyday_count = sizeof everyday_kinds / sizeof *everyday_kinds;
 
 void everyday_sheet(struct sheet *sheet, const struct kind *kind, unsigned number)
 {
     static struct order order;
-    struct random r = {SEED + 1000 * (uint64_t)(kind - everyday_kinds) + number};
+    struct random r = {SEED + number}; // both kinds have the same sheets
 
     kind->make(&order, &r);
     unsigned places = draw(&r, FEWEST, DOZEN), transitions = draw(&r, 2, DOZEN);

@@ -3,7 +3,12 @@
 
 #include "everyday.h"
 
-enum { EVERYDAY_CALLS = 50 };
+enum { REPEATED_CALLS = 50 };
+
+int kind_is_everyday(const struct kind *kind)
+{
+    return kind->group == EVERYDAY || kind->group == EVERYDAY_REPEATED;
+}
 
 unsigned all_kinds(void)
 {
@@ -17,19 +22,19 @@ const struct kind *kind_at(unsigned k)
 
 unsigned sheets_of(const struct kind *kind, unsigned sheets)
 {
-    if (kind->group != EVERYDAY)
+    if (!kind_is_everyday(kind))
         return sheets;
     return EVERYDAY_TIMES * sheets > FEWEST_EVERYDAY ? EVERYDAY_TIMES * sheets : FEWEST_EVERYDAY;
 }
 
 unsigned calls_of(const struct kind *kind)
 {
-    return kind->group == EVERYDAY ? EVERYDAY_CALLS : 1;
+    return kind->group == EVERYDAY_REPEATED ? REPEATED_CALLS : 1;
 }
 
 void any_sheet(struct sheet *sheet, const struct kind *kind, unsigned number)
 {
-    if (kind->group == EVERYDAY)
+    if (kind_is_everyday(kind))
         everyday_sheet(sheet, kind, number);
     else
         sheet_of_kind(sheet, kind, number);

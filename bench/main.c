@@ -14,7 +14,7 @@
 // Over the fastest library's time.
 static const struct {
     double median, worst;
-} bars[GROUPS] = {{1, 2}, {1, 2}, {1, 2}, {0.6, 1}};
+} bars[GROUPS] = {{1, 2}, {1, 2}, {1, 2}, {0.6, 1}, {0.6, 1}};
 
 struct summary {
     unsigned sheets, differ; // judged, and of these judged differently by different judges
@@ -64,7 +64,8 @@ static void judge_kind(const struct kind *kind, unsigned sheets, struct summary 
     summary->missed[kind->group] |= middle > bars[kind->group].median || over_peer[sheets - 1] > bars[kind->group].worst;
 }
 
-// Each group apart. Returns whether the bar is missed on sheets that it is set for: all but those with few pairs.
+// Each group apart. Returns whether the bar is missed on sheets that it is set for, timed as the others are: all but those with few pairs and those
+// that are judged again and again.
 static int print_bar(const struct summary *summary)
 {
     printf("Bar: at most this part of the time of the fastest of three libraries at the median of each kind, and this on any sheet.\n");

@@ -170,6 +170,7 @@ const char *const group_titles[GROUPS] = {
     "Sheets at the limits, made to be slow",
     "Sheets with as many places and events but few pairs, made to be slow",
     "Everyday sheets",
+    "The same, each judged again and again",
 };
 
 const struct kind kinds[] = {

@@ -18,7 +18,7 @@ struct order {
 // Numbering of the events and the pairs in the sheet.
 enum numbering { SHUFFLED, AS_MADE, BACKWARDS };
 
-enum group { AT_THE_LIMITS, MADE_TO_BE_SLOW, FEW_PAIRS, EVERYDAY, GROUPS };
+enum group { AT_THE_LIMITS, MADE_TO_BE_SLOW, FEW_PAIRS, EVERYDAY, EVERYDAY_REPEATED, GROUPS };
 extern const char *const group_titles[GROUPS];
 
 struct kind {
