@@ -13,7 +13,6 @@ use Rattle.finite.specs.Bounded.{decide}
 use Rattle.finite.specs.Last.{last, last-le, last-passes, last-above}
 use Rattle.ids.specs.Limits.{mostEvents, mostPairs}
 use Rattle.plan.specs.Net.{Plan}
-use Rattle.plan.specs.Order.{Named}
 use Rattle.sorting.specs.Arranged.{Sorted}
 use Rattle.sorting.specs.Rows.{planBy}
 use Rattle.sorting.specs.Waiting.{startsAt}
@@ -23,10 +22,10 @@ module _ (P : Plan) (u : ℕ) where
   abbrev orOwn : (ℕ → Type 0) → ℕ → ℕ → Type 0
   orOwn D at i = D i ⊎ ((P .earlier i ≡ u) × (at ≤ i))
 
-  -- Such pairs are carried, in rows of what is before or after, by the plan Q; `at` leads to a pair of the event, or is 0.
-  pub record Along (Q : Plan) (D : ℕ → Type 0) (at : ℕ) (rows : List ℕ) : Type 0 where
+  -- Such pairs are carried; `at` leads to a pair of the event, or is 0.
+  pub record Along (D : ℕ → Type 0) (at : ℕ) (rows : List ℕ) : Type 0 where
     pub here : (k : ℕ) → at ≡ k + 1 → (k < P .pairs) × (P .earlier k ≡ u)
-    pub carried : Carried Q (orOwn D at) rows
+    pub carried : Carried P (orOwn D at) rows
 
 module _ (events pairs : ℕ) (from to first next queue : List ℕ) (sorted : Sorted events pairs from to first next queue) (h : ℕ) (place : h < events) where
   abbrev P : Plan
@@ -50,21 +49,21 @@ module _ (events pairs : ℕ) (from to first next queue : List ℕ) (sorted : So
   pub head-few : getD first u 0 ≤ mostPairs
   head-few = omega (arith, sorted .lists .heads u event-few, last-le (startsAt P u) pairs, sorted .within .most)
 
-  module _ (Q : Plan) (as-many : Q .pairs ≡ pairs) (D : ℕ → Type 0) where
-    pub along-start : (rows : List ℕ) → Carried Q D rows → Along P u Q D (getD first u 0) rows
+  module _ (D : ℕ → Type 0) where
+    pub along-start : (rows : List ℕ) → Carried P D rows → Along P u D (getD first u 0) rows
     along-start rows c =
         let is = sorted .lists .heads u event-few in
         record {
           here = linked pairs (getD first u 0) (omega arith) is;
-          carried = carried-less Q c (λ i l.
+          carried = carried-less P c (λ i l.
               ⊎-elim
               (λ d. d)
-              (λ own. absurd (omega (arith, own .1, is, last-above (startsAt P u) pairs i (omega (arith, l, as-many)) (yes-eqb (own .0))))));
+              (λ own. absurd (omega (arith, own .1, is, last-above (startsAt P u) pairs i l (yes-eqb (own .0))))));
         }
 
-    module _ (at : ℕ) (rows : List ℕ) (along : Along P u Q D at rows) where
-      pub along-end : (E : ℕ → Type 0) → at ≡ 0 → ((i : ℕ) → E i → D i ⊎ (P .earlier i ≡ u)) → Carried Q E rows
-      along-end E none all = carried-less Q (along .carried) (λ i l e. ⊎-elim inl (λ own. inr (own, omega (arith, none))) (all i e))
+    module _ (at : ℕ) (rows : List ℕ) (along : Along P u D at rows) where
+      pub along-end : (E : ℕ → Type 0) → at ≡ 0 → ((i : ℕ) → E i → D i ⊎ (P .earlier i ≡ u)) → Carried P E rows
+      along-end E none all = carried-less P (along .carried) (λ i l e. ⊎-elim inl (λ own. inr (own, omega (arith, none))) (all i e))
 
       module _ (some : 0 < at) where
         pub this : (at - 1 < pairs) × (P .earlier (at - 1) ≡ u)
@@ -83,15 +82,15 @@ module _ (events pairs : ℕ) (from to first next queue : List ℕ) (sorted : So
         pub along-less : getD next (at - 1) 0 < at
         along-less = omega (arith, some, link, last-le (startsAt P u) (at - 1))
 
-        pub along-more : {new : List ℕ} → Named Q → Q .events ≤ mostEvents → ((i : ℕ) → i < pairs → Q .later i ≡ Q .earlier (at - 1) → D i)
-            → RowCarried rows new (Q .earlier (at - 1)) (Q .later (at - 1)) → Along P u Q D (getD next (at - 1) 0) new
-        along-more named few whole row =
+        pub along-more : {new : List ℕ} → ((i : ℕ) → i < pairs → P .later i ≡ P .earlier (at - 1) → D i)
+            → RowCarried rows new (P .earlier (at - 1)) (P .later (at - 1)) → Along P u D (getD next (at - 1) 0) new
+        along-more whole row =
             record {
               here = linked (at - 1) (getD next (at - 1) 0) (omega (arith, this .0)) link;
               carried =
                   carried-less
-                  Q
-                  (carried-more Q named few (at - 1) (along .carried) (omega (arith, this .0, as-many)) (λ i l e. inl (whole i (omega (arith, l, as-many)) e)) row)
+                  P
+                  (carried-more P (sorted .within .named) (sorted .within .few) (at - 1) (along .carried) (this .0) (λ i l e. inl (whole i l e)) row)
                   (λ i l. ⊎-elim (λ d. inr (inl d)) (λ own. own-more i (own .0) (own .1)));
             }
           where

@@ -6,10 +6,11 @@ use mathlib.Core.List.{List}
 use mathlib.Core.Logic.{_⊎_, inl, inr, ⊎-elim}
 use mathlib.Core.Path.{_≡_, refl, sym, subst}
 use lib.Dec.{T}
+use lib.ListN.{replicate}
 use Rattle.closure.specs.Ordered.{before-events}
 use Rattle.closure.specs.PlanRows.{Predecessors}
 use Rattle.ids.specs.Limits.{mostEvents}
-use Rattle.marks.specs.Marks.{marked}
+use Rattle.marks.specs.Marks.{marked, none-marked}
 use Rattle.plan.specs.Net.{Plan}
 use Rattle.plan.specs.Order.{Before, pair, chain, Named}
 
@@ -30,6 +31,9 @@ pub record RowCarried (old new : List ℕ) (from into : ℕ) : Type 0 where
   pub only : (v u : ℕ) → u < mostEvents → T (marked new v u) → T (marked old v u) ⊎ ((v ≡ into) × (T (marked old from u) ⊎ (u ≡ from)))
 
 module _ (P : Plan) where
+  pub blank-within : (n : ℕ) → Within P (replicate n 0)
+  blank-within n = record { only = λ v u l t. absurd (subst T (none-marked n v u) t) }
+
   -- What is before an event is so by way of a pair to it.
   last-pair : {u v : ℕ} → Before P u v → (i : ℕ) × (i < P .pairs) × (P .later i ≡ v) × ((u ≡ P .earlier i) ⊎ Before P u (P .earlier i))
   last-pair (pair i l) = (i, l, refl, inl refl)

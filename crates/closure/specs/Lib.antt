@@ -3,3 +3,4 @@ pub mod Between
 pub mod PlanRows
 pub mod Carried
 pub mod InOrder
+pub mod Turned

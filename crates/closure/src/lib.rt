@@ -1,12 +1,12 @@
 // "Before" in rows of marks, worked out pair by pair: events are taken in an order in which what is before comes first, and each pair has the row of
-// its one event joined into that of the other once. Which pairs are skeleton pairs.
+// its earlier event joined into that of its later one once. Which pairs are skeleton pairs.
 // The numbers of events and pairs and the row `from` say which plan it is; they aren't read.
 ghost use Prim.Native.Nat.{_+_, _<_};
 ghost use mathlib.Core.Bool.{not};
 ghost use mathlib.Core.Path.{_≡_};
 ghost use Rattle.closure.specs.Carried.{Within, RowCarried};
-ghost use Rattle.closure.specs.InOrder.{AheadTo, AfterFrom};
-ghost use Rattle.closure.specs.PlanRows.{Successors, Predecessors};
+ghost use Rattle.closure.specs.InOrder.{CarriedTo};
+ghost use Rattle.closure.specs.PlanRows.{Predecessors};
 ghost use Rattle.ids.specs.Lent.{was, is};
 ghost use Rattle.ids.specs.Limits.{mostEvents};
 ghost use Rattle.marks.specs.Marks.{meeting};
@@ -27,7 +27,7 @@ fn carry(rows: &mut [u32; ROWS], one: Event, other: Event)
 }
 
 // What is before the event at h in the queue is before those that it has a pair to, and so is the event.
-fn carry_ahead(
+fn carry_pairs(
     events: usize,
     pairs: usize,
     from: &[u8; PAIRS],
@@ -39,8 +39,8 @@ fn carry_ahead(
     rows: &mut [u32; ROWS],
 )
     requires { ⌜ Sorted events pairs (now from) (now to) (now first) (now next) (now queue) × (h < events) ⌝ }
-    requires { ⌜ AheadTo (planBy events pairs (now from) (now to)) (now queue) h (now rows) ⌝ }
-    ensures { λ _. ⌜ AheadTo (planBy events pairs (was from) (was to)) (was queue) (h + 1) (is rows) ⌝ }
+    requires { ⌜ CarriedTo (planBy events pairs (now from) (now to)) (now queue) h (now rows) ⌝ }
+    ensures { λ _. ⌜ CarriedTo (planBy events pairs (was from) (was to)) (was queue) (h + 1) (is rows) ⌝ }
 {
     let u = queue[h] as usize;
     let mut at = first[u] as usize;
@@ -53,7 +53,7 @@ fn carry_ahead(
 }
 
 // Rows of what is before each event, from rows that mark no more than that.
-pub fn close_ahead(
+pub fn close(
     events: usize,
     pairs: usize,
     from: &[u8; PAIRS],
@@ -68,55 +68,7 @@ pub fn close_ahead(
     ensures { λ _. ⌜ Predecessors (planBy events pairs (was from) (was to)) (is rows) ⌝ }
 {
     for h in 0..events {
-        carry_ahead(events, pairs, from, to, first, next, queue, h, rows);
-    }
-}
-
-// What is after those that the event at h in the queue has a pair to is after the event, and so are they.
-fn carry_after(
-    events: usize,
-    pairs: usize,
-    from: &[u8; PAIRS],
-    to: &[u8; PAIRS],
-    first: &[u16; EVENTS],
-    next: &[u16; PAIRS],
-    queue: &[u8; EVENTS],
-    h: usize,
-    rows: &mut [u32; ROWS],
-)
-    requires { ⌜ Sorted events pairs (now from) (now to) (now first) (now next) (now queue) × (h < events) ⌝ }
-    requires { ⌜ AfterFrom (planBy events pairs (now from) (now to)) (now queue) (h + 1) (now rows) ⌝ }
-    ensures { λ _. ⌜ AfterFrom (planBy events pairs (was from) (was to)) (was queue) h (is rows) ⌝ }
-{
-    let u = queue[h] as usize;
-    let mut at = first[u] as usize;
-    while at > 0 {
-        let i = at - 1;
-        let v = to[i] as usize;
-        carry(rows, Event(v), Event(u));
-        at = next[i] as usize;
-    }
-}
-
-// Rows of what is after each event, from rows that mark no more than that; the events from the last to the first.
-pub fn close_after(
-    events: usize,
-    pairs: usize,
-    from: &[u8; PAIRS],
-    to: &[u8; PAIRS],
-    first: &[u16; EVENTS],
-    next: &[u16; PAIRS],
-    queue: &[u8; EVENTS],
-    rows: &mut [u32; ROWS],
-)
-    requires { ⌜ Sorted events pairs (now from) (now to) (now first) (now next) (now queue) ⌝ }
-    requires { ⌜ Within (planBy events pairs (now to) (now from)) (now rows) ⌝ }
-    ensures { λ _. ⌜ Successors (planBy events pairs (was from) (was to)) (is rows) ⌝ }
-{
-    let mut h = events;
-    while h > 0 {
-        h -= 1;
-        carry_after(events, pairs, from, to, first, next, queue, h, rows);
+        carry_pairs(events, pairs, from, to, first, next, queue, h, rows);
     }
 }
 

@@ -6,9 +6,10 @@ use mathlib.Core.List.{List}
 use mathlib.Core.Option.{none}
 use mathlib.Core.Path.{_≡_, sym, ap, _∙_}
 use mathlib.Core.Logic.{_↔_}
-use Rattle.closure.specs.Carried.{Within}
-use Rattle.closure.specs.InOrder.{turned, pairs-within, blank-within}
-use Rattle.closure.specs.PlanRows.{Says, PairRows}
+use lib.Dec.{T}
+use Rattle.closure.specs.Carried.{Within, blank-within}
+use Rattle.closure.specs.Turned.{turned, turned-rows, pairs-within}
+use Rattle.closure.specs.PlanRows.{Says, PairRows, Predecessors}
 use Rattle.finite.specs.Bounded.{any, any-ext}
 use Rattle.ids.specs.Limits.{rowsWords}
 use Rattle.plan.specs.Compare.{SamePairs}
@@ -51,6 +52,10 @@ module _ (s : List ℕ) (l : Layout) (known : LaidBy s l) (all : noEvent s ≡ n
             };
       }
 
+  -- and the other way round
+  pub turned-in-rows : PlanInRows (l .events) (l .pairs) to from
+  turned-in-rows = record { few = in-rows .few; most = in-rows .most; named = record { earlier = in-rows .named .later; later = in-rows .named .earlier } }
+
   -- it has a cycle exactly if the sheet's order has one
   pub cycle-found : hasCycle P ≡ cyclic s
   unfolding cyclic cycleAt hasCycle
@@ -71,11 +76,12 @@ module _ (s : List ℕ) (l : Layout) (known : LaidBy s l) (all : noEvent s ≡ n
   ahead-within e = rw e (blank-within P rowsWords)
 
   -- rows of the order of the plan in the rows are those of the sheet's
-  pub wanted-rows : {w : Wanted} {succ′ pred′ : List ℕ} → WantedRows w P succ′ pred′ → WantedRows w (planOf s) succ′ pred′
-  wanted-rows rows =
+  pub wanted-rows : {w : Wanted} {succ′ pred′ : List ℕ} → (T (w .after) → Predecessors (turned P) succ′) → (T (w .ahead) → Predecessors P pred′)
+      → WantedRows w (planOf s) succ′ pred′
+  wanted-rows after ahead =
       record {
-        after = λ t. same-rows (Before P) (Before (planOf s)) order (rows .after t);
-        ahead = λ t. same-rows (λ u v. Before P v u) (λ u v. Before (planOf s) v u) (λ u v. order v u) (rows .ahead t);
+        after = λ t. same-rows (Before P) (Before (planOf s)) order (turned-rows P _ (after t));
+        ahead = λ t. same-rows (λ u v. Before P v u) (λ u v. Before (planOf s) v u) (λ u v. order v u) (ahead t);
       }
     where
       order : (u v : ℕ) → Before P u v ↔ Before (planOf s) u v

@@ -6,7 +6,7 @@ ghost use mathlib.Core.Option.{none};
 ghost use lib.Dec.{T};
 ghost use lib.ListN.{length};
 ghost use Rattle.closure.specs.Carried.{Within};
-ghost use Rattle.closure.specs.PlanRows.{Successors, Predecessors};
+ghost use Rattle.closure.specs.PlanRows.{Predecessors};
 ghost use Rattle.finite.specs.Queue.{Stored};
 ghost use Rattle.ids.specs.Lent.{was, is};
 ghost use Rattle.ids.specs.Limits.{mostEvents};
@@ -14,12 +14,10 @@ ghost use Rattle.sheet.specs.Table.{pairsOf};
 ghost use Rattle.sheet.specs.Items.{planOf};
 ghost use Rattle.sheet.specs.Faults.{noEvent, repeated, orderFaults, firstFault};
 ghost use Rattle.sheet.specs.Told.{tell};
-ghost use Rattle.sorting.specs.Arranged.{Sorted};
 ghost use Rattle.sorting.specs.Rows.{planBy, PlanInRows, hasCycle};
 ghost use Rattle.layout.specs.Layout.{LaidBy};
 ghost use Rattle.order.specs.Rows.{Blank, PairsHeld, WantedRows};
-use closure::close_after;
-use closure::close_ahead;
+use closure::close;
 use ids::EVENTS;
 use ids::Event;
 use ids::PAIRS;
@@ -78,63 +76,19 @@ pub fn mark_pairs(
     no_fault()
 }
 
-// Fills the rows of what is before each event, if they are wanted.
-fn fill_ahead(
-    wanted: bool,
-    events: usize,
-    pairs: usize,
-    from: &[u8; PAIRS],
-    to: &[u8; PAIRS],
-    first: &[u16; EVENTS],
-    next: &[u16; PAIRS],
-    queue: &[u8; EVENTS],
-    pred: &mut [u32; ROWS],
-)
-    requires { ⌜ Sorted events pairs (now from) (now to) (now first) (now next) (now queue) ⌝ }
-    requires { ⌜ Within (planBy events pairs (now from) (now to)) (now pred) ⌝ }
-    ensures { λ _. ⌜ (T wanted → Predecessors (planBy events pairs (was from) (was to)) (is pred)) ⌝ }
-{
-    if wanted {
-        close_ahead(events, pairs, from, to, first, next, queue, pred);
-    }
-}
-
-// Fills the rows of what is after each event, if they are wanted.
-fn fill_after(
-    wanted: bool,
-    events: usize,
-    pairs: usize,
-    from: &[u8; PAIRS],
-    to: &[u8; PAIRS],
-    first: &[u16; EVENTS],
-    next: &[u16; PAIRS],
-    queue: &[u8; EVENTS],
-    succ: &mut [u32; ROWS],
-)
-    requires { ⌜ Sorted events pairs (now from) (now to) (now first) (now next) (now queue) ⌝ }
-    requires { ⌜ Within (planBy events pairs (now to) (now from)) (now succ) ⌝ }
-    ensures { λ _. ⌜ (T wanted → Successors (planBy events pairs (was from) (was to)) (is succ)) ⌝ }
-{
-    if wanted {
-        close_after(events, pairs, from, to, first, next, queue, succ);
-    }
-}
-
-// Whether the pairs have a cycle. If they have none, fills the rows that are wanted.
+// Whether the pairs have a cycle. If they have none, fills the rows of what is before each event, where these are wanted.
 fn arrange(
-    wanted: Wanted,
+    wanted: bool,
     events: usize,
     pairs: usize,
     from: &[u8; PAIRS],
     to: &[u8; PAIRS],
-    succ: &mut [u32; ROWS],
-    pred: &mut [u32; ROWS],
+    rows: &mut [u32; ROWS],
 ) -> bool
     requires { ⌜ PlanInRows events pairs (now from) (now to) ⌝ }
-    requires { ⌜ Within (planBy events pairs (now to) (now from)) (now succ) ⌝ }
-    requires { ⌜ Within (planBy events pairs (now from) (now to)) (now pred) ⌝ }
+    requires { ⌜ Within (planBy events pairs (now from) (now to)) (now rows) ⌝ }
     ensures { λ r. ⌜ r ≡ hasCycle (planBy events pairs (was from) (was to)) ⌝ }
-    ensures { λ r. ⌜ (r ≡ false → WantedRows wanted (planBy events pairs (was from) (was to)) (is succ) (is pred)) ⌝ }
+    ensures { λ r. ⌜ (r ≡ false → T wanted → Predecessors (planBy events pairs (was from) (was to)) (is rows)) ⌝ }
 {
     let mut first = [0u16; EVENTS];
     let mut next = [0u16; PAIRS];
@@ -143,32 +97,14 @@ fn arrange(
     if sorted < events {
         return true;
     }
-    fill_ahead(
-        wanted.ahead,
-        events,
-        pairs,
-        from,
-        to,
-        &first,
-        &next,
-        &queue,
-        pred,
-    );
-    fill_after(
-        wanted.after,
-        events,
-        pairs,
-        from,
-        to,
-        &first,
-        &next,
-        &queue,
-        succ,
-    );
+    if wanted {
+        close(events, pairs, from, to, &first, &next, &queue, rows);
+    }
     false
 }
 
-// The first of faults 10 and 11. If there is none, `succ` marks what is after each event and `pred` what is before it, where that is wanted.
+// The first of faults 10 and 11. If there is none, `succ` marks what is after each event and `pred` what is before it, where that is wanted: what
+// is after is what is before with the pairs turned.
 pub fn order_fault(
     s: &[u8],
     l: Layout,
@@ -188,8 +124,14 @@ pub fn order_fault(
     if repeat.number != 0 {
         return repeat;
     }
-    if arrange(wanted, l.events, l.pairs, &from, &to, succ, pred) {
+    let n = l.events;
+    let m = l.pairs;
+    if arrange(wanted.ahead, n, m, &from, &to, pred) {
         return plain_fault(11);
+    }
+    if wanted.after {
+        arrange(true, n, m, &to, &from, succ);
+        return no_fault();
     }
     no_fault()
 }
