@@ -1,11 +1,10 @@
 -- What the place judgement hands over: the marks of the done set, and a flow row. Document 01, "Place judgement".
-use Prim.Native.Nat.{ℕ, _+_, _≤_, _<_}
+use Prim.Native.Nat.{ℕ, _≤_, _<_}
 use mathlib.Core.Bool.{Bool, cond, _&&_}
 use denote.Ref.{now}
 use mathlib.Core.List.{List}
 use mathlib.Core.Path.{_≡_}
 use lib.Dec.{T, ltb}
-use lib.IntN.{ℤ}
 use lib.ListN.{length, getD}
 use Rattle.plan.specs.Net.{Net, Plan}
 use Rattle.plan.specs.Flow.{valid}
@@ -13,14 +12,9 @@ use Rattle.plan.specs.Prefix.{missing, smallest}
 use Rattle.sheet.specs.Items.{netOf, planOf}
 use Rattle.calls.specs.FlowRow.{flowLength, flowOf}
 use Rattle.calls.specs.Overwritten.{overwritten}
-use Rattle.ids.specs.Lent.{Held, Lent, was, is}
+use Rattle.ids.specs.Lent.{Held}
 use Rattle.ids.specs.declared.Place.{Place}
 use Rattle.sheet.specs.Table.{eventsOf}
-use Rattle.sheet.specs.Faultless.{Faultless}
-use Rattle.layout.specs.Layout.{LayoutOf}
-use Rattle.layout.specs.declared.Layout.{Layout}
-use Rattle.order.specs.Rows.{OrderRows}
-use Rattle.place.specs.Place.{spareAt}
 use Rattle.place.specs.Judged.{JudgedIn}
 
 -- A mark is 1 for a member of the smallest done set of the greatest lack if something is missing, else 0.
@@ -49,17 +43,3 @@ validAt s p flow = valid (netOf s) (planOf s) p (flowOf flow)
 abbrev pub ShownBy : Held → Place → Held → Held → Held → Held → ℕ → Type 0
 ShownBy s p pred amount fed share m =
     (givers : List ℕ) × JudgedIn (now s) (p .0) (now pred) (now amount) (now fed) (now share) givers m
-
--- What judging a place asks for: a sheet without fault and its order, one of its places, and rows that are long enough.
-abbrev pub Judgeable : Held → Layout → Place → Held → Held → Held → Held → Type 0
-Judgeable s l p succ pred flow marks =
-    Faultless (now s)
-    × LayoutOf (now s) l
-    × (p .0 < l .places)
-    × OrderRows (planOf (now s)) (now succ) (now pred)
-    × (l .pairs + l .events ≤ length (now flow))
-    × (l .events ≤ length (now marks))
-
--- What it tells: the spare count, the marks and the flow row.
-abbrev pub JudgedBy : Lent → Place → Lent → Lent → ℤ → Type 0
-JudgedBy s p flow marks spare = (spare ≡ spareAt (was s) (p .0)) × (is marks ≡ marksDone (was s) (p .0) (was marks)) × Written (was s) (p .0) (was flow) (is flow)

@@ -4,7 +4,7 @@ ghost use mathlib.Core.Path.{_≡_};
 ghost use lib.ListN.{length};
 ghost use Rattle.ids.specs.Lent.{was, is};
 ghost use Rattle.ids.specs.Limits.{mostEvents, smallPlan, middlePlan};
-ghost use Rattle.place_judgement.specs.Handed.{Judgeable, JudgedBy};
+ghost use Rattle.place_judgement.specs.Known.{Judgeable, JudgedBy};
 ghost use Rattle.place_judgement.specs.Judgement.{says, judgementSays, Handed, marksAfter};
 use calls::with_place;
 use calls::with_row;
