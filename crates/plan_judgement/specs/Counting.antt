@@ -1,5 +1,5 @@
 -- What counting at all places of a sheet asks for, and what it tells.
-use Prim.Native.Nat.{_≤_}
+use Prim.Native.Nat.{ℕ, _≤_}
 use mathlib.Core.Bool.{Bool}
 use denote.Ref.{now}
 use lib.ListN.{length}
@@ -13,6 +13,10 @@ use Rattle.sheet.specs.Items.{planOf}
 use Rattle.plan_judgement.specs.Asked.{askedAt}
 use Rattle.plan_judgement.specs.First.{FirstTo}
 use Rattle.plan_judgement.specs.declared.First.{First}
+
+-- as many events as the smallest amounts are for
+abbrev pub fewEvents : ℕ
+fewEvents = 4
 
 -- a sheet without fault, its predecessors, and a row with a number for each place
 abbrev pub Countable : Held → Layout → Held → Held → Type 0

@@ -13,7 +13,7 @@ ghost use Rattle.least.specs.PlaceRows.{RowsFor, UnfedFrom};
 ghost use Rattle.sheet.specs.Faultless.{Faultless};
 ghost use Rattle.sheet.specs.Items.{planOf, openingAt};
 ghost use Rattle.plan_judgement.specs.Asked.{askedAt};
-ghost use Rattle.plan_judgement.specs.Counting.{Countable, Counted};
+ghost use Rattle.plan_judgement.specs.Counting.{fewEvents, Countable, Counted};
 ghost use Rattle.plan_judgement.specs.First.{FirstTo};
 ghost use Rattle.plan_judgement.specs.Judgement.{says, planSays, rowOf};
 use calls::with_row;
@@ -37,6 +37,11 @@ use ranks::event_order;
 use sheet::Fault;
 use summary::Totals;
 use summary::sum_up;
+
+// Of a sheet with so few events, zeroing the amounts of a small plan would be a good part of the time.
+const FEW: usize = 4;
+
+const FEW_SQUARE: usize = FEW * EVENTS;
 
 pub enum Answer {
     Refused(Fault),
@@ -180,6 +185,16 @@ fn count_in(
     )
 }
 
+// Counts with the amounts of a plan of few events.
+fn count_few(s: &[u8], l: Layout, least: bool, pred: &[u32; ROWS], row: &mut [u32]) -> First
+    requires { ⌜ Countable s l pred row ⌝ }
+    requires { ⌜ l .events ≤ fewEvents ⌝ }
+    ensures { λ r. ⌜ Counted s l least row r ⌝ }
+{
+    let mut amount = [0u32; FEW_SQUARE];
+    count_in(s, l, least, pred, &mut amount, row)
+}
+
 // Counts with the amounts of a small plan.
 fn count_small(s: &[u8], l: Layout, least: bool, pred: &[u32; ROWS], row: &mut [u32]) -> First
     requires { ⌜ Countable s l pred row ⌝ }
@@ -227,6 +242,9 @@ fn count_within(
     if l.events > most {
         return count_within(s, l, least, pred, row, 4 * most);
     }
+    if most <= FEW {
+        return count_few(s, l, least, pred, row);
+    }
     if most <= SMALL {
         return count_small(s, l, least, pred, row);
     }
@@ -242,7 +260,7 @@ pub fn count_all(s: &[u8], l: Layout, least: bool, pred: &[u32; ROWS], row: &mut
     requires { ⌜ Countable s l pred row ⌝ }
     ensures { λ r. ⌜ Counted s l least row r ⌝ }
 {
-    count_within(s, l, least, pred, row, SMALL)
+    count_within(s, l, least, pred, row, FEW)
 }
 
 // What each number of a row is above the place's opening count.

@@ -9,6 +9,7 @@ use Rattle.plan_judgement.proofs.count_within.Kinds as kinds
 use Rattle.plan_judgement.proofs.+count_within.Lts-count_within as lts
 use Rattle.plan_judgement.proofs.count_large.Reads as large
 use Rattle.plan_judgement.proofs.count_middle.Reads as middle
+use Rattle.plan_judgement.proofs.count_few.Reads as few
 use Rattle.plan_judgement.proofs.count_small.Reads as small
 use Rattle.plan_judgement.proofs.+count_within.{statement}
 use Rattle.plan_judgement.proofs.+count_within.Tie.{close}
@@ -24,11 +25,14 @@ abbrev below : ℕ → In 3 kinds.ps
 below t = and 3 kinds.ps (falls 3 kinds.ps _<_ μ t) within.Pre
 
 pub +count-within-spec : {M : Type 1} → statement M
-+count-within-spec = close μ λ t. lts.spec (below t, within.Post, small.Asked, small.Learnt, middle.Asked, middle.Learnt, large.Asked, large.Learnt)
++count-within-spec = close μ λ t. lts.spec (below t, within.Post, few.Asked, few.Learnt, small.Asked, small.Learnt, middle.Asked, middle.Learnt, large.Asked, large.Learnt)
     (given t)
     within.Post
     (λ c. search needs)
     (λ c κs. (omega arith, (search needs, (omega arith, omega arith))))
+    (λ c. search needs)
+    (λ c. search needs)
+    (λ c κs. search needs)
     (λ c. search needs)
     (λ c. search needs)
     (λ c κs. search needs)
