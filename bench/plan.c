@@ -121,31 +121,21 @@ static uint32_t read_events(const uint8_t *labels, const uint8_t *pairs, struct 
     return self < MAX_PAIRS ? fault_at(plan, 9, self) : twice < MAX_PAIRS ? fault_at(plan, 10, twice) : 0;
 }
 
-// Fault 11, by taking away events with nothing left before them; `before` grows along that order.
+// What is before what, with one stop more each time (Warshall); returns 11 for a cycle. The archive orders the events instead.
 static uint32_t work_out_before(struct plan *plan)
 {
-    unsigned waiting[MAX_EVENTS] = {0}, ready[MAX_EVENTS], found = 0;
-
     memset(plan->before, 0, sizeof plan->before);
     for (unsigned i = 0; i < plan->pairs; i++)
-        waiting[plan->later[i]]++;
+        plan->before[plan->earlier[i]][plan->later[i]] = 1;
+    for (unsigned stop = 0; stop < plan->events; stop++)
+        for (unsigned a = 0; a < plan->events; a++)
+            if (plan->before[a][stop])
+                for (unsigned b = 0; b < plan->events; b++)
+                    plan->before[a][b] |= plan->before[stop][b];
     for (unsigned e = 0; e < plan->events; e++)
-        if (waiting[e] == 0)
-            ready[found++] = e;
-    for (unsigned done = 0; done < found; done++) {
-        unsigned a = ready[done];
-        for (unsigned i = 0; i < plan->pairs; i++) {
-            if (plan->earlier[i] != a)
-                continue;
-            unsigned b = plan->later[i];
-            plan->before[a][b] = 1;
-            for (unsigned e = 0; e < plan->events; e++)
-                plan->before[e][b] |= plan->before[e][a];
-            if (--waiting[b] == 0)
-                ready[found++] = b;
-        }
-    }
-    return found < plan->events ? 11 : 0;
+        if (plan->before[e][e])
+            return 11;
+    return 0;
 }
 
 static bool event_between(const struct plan *plan, unsigned a, unsigned b)
