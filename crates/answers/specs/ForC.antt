@@ -1,20 +1,10 @@
 -- What C gets of a call's answer. The C function returns the fault's number, 0 for none. Each number behind a pointer is a result, whatever
 -- stood there: the fault's item, and the values of the answer, each 0 where the call is refused.
 use Rattle.std.specs.Prelude.{ℕ, Bool, cond, ◌≡◌, ℤ, pos}
-use Rattle.std.specs.Borrow.{Bor}
-use denote.Triple.Both.{Both}
 use Rattle.std.proofs.Math.Option.{Option, none, some}
 use Rattle.calls.specs.Said.{Said}
 use Rattle.sheet.specs.declared.Fault.{Fault}
 use Rattle.summary.specs.Summary.{PlanValues}
-
--- a number behind a pointer, at entry and at exit of a call
-abbrev pub Pointer : Type 0 → Type 0
-Pointer A = Both (Bor A) (Bor A)
-
--- what stands there at return
-abbrev pub at_return : {A : Type 0} → Pointer A → A
-at_return pointer = pointer.exit.now
 
 -- one of an answer's values, or what stands for it where there are none
 abbrev pub value_or : {A B : Type 0} → B → (A → B) → Option A → B

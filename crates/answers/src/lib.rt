@@ -1,11 +1,13 @@
 // An answer told in numbers: the fault's number is returned, and what C gets through pointers is written in every case.
+#![tactic(auto)]
+
 ghost use Rattle.std.specs.Prelude.{◌≤◌};
 ghost use Rattle.calls.specs.Length.{says as saysWritten};
 ghost use Rattle.flowcheck.specs.Checked.{says as saysChecked};
 ghost use Rattle.ids.specs.Limits.{most_places};
 ghost use Rattle.place_judgement.specs.Judgement.{says as saysJudged};
 ghost use Rattle.plan_judgement.specs.Judgement.{says};
-ghost use Rattle.answers.specs.ForC.{at_return, first_said, FaultTold, PlanTold, PlaceTold, CheckTold, ListingTold, MendTold};
+ghost use Rattle.answers.specs.ForC.{first_said, FaultTold, PlanTold, PlaceTold, CheckTold, ListingTold, MendTold};
 
 use calls::Written;
 use flowcheck::Checked;
@@ -16,7 +18,7 @@ use summary::first_place;
 
 // A fault, or that there is none.
 pub fn tell_fault(f: Fault, item: &mut u32) -> u32
-    ensures { FaultTold f result (at_return item) }
+    ensures { FaultTold f result item.new }
 {
     let number = f.number;
     *item = f.item;
@@ -32,7 +34,7 @@ pub fn tell_plan(
     first: &mut u32,
 ) -> u32
     requires { first_said (says a) ≤ most_places }
-    ensures { PlanTold (says a) result (at_return item) (at_return total) (at_return short) (at_return first) }
+    ensures { PlanTold (says a) result item.new total.new short.new first.new }
 {
     match a {
         Answer::Refused(f) => {
@@ -53,7 +55,7 @@ pub fn tell_plan(
 
 // What the place judgement says.
 pub fn tell_place(j: Judgement, item: &mut u32, spare: &mut i32) -> u32
-    ensures { PlaceTold (saysJudged j) result (at_return item) (at_return spare) }
+    ensures { PlaceTold (saysJudged j) result item.new spare.new }
 {
     match j {
         Judgement::Refused(f) => {
@@ -69,7 +71,7 @@ pub fn tell_place(j: Judgement, item: &mut u32, spare: &mut i32) -> u32
 
 // What the flow check says.
 pub fn tell_check(c: Checked, item: &mut u32, valid: &mut u32) -> u32
-    ensures { CheckTold (saysChecked c) result (at_return item) (at_return valid) }
+    ensures { CheckTold (saysChecked c) result item.new valid.new }
 {
     *valid = 0;
     match c {
@@ -84,7 +86,7 @@ pub fn tell_check(c: Checked, item: &mut u32, valid: &mut u32) -> u32
 
 // What the listing's call says.
 pub fn tell_listing(a: Written, written: &mut usize) -> u32
-    ensures { ListingTold (saysWritten a) result (at_return written) }
+    ensures { ListingTold (saysWritten a) result written.new }
 {
     match a {
         Written::Refused(f) => {
@@ -100,7 +102,7 @@ pub fn tell_listing(a: Written, written: &mut usize) -> u32
 
 // What the mending call says.
 pub fn tell_mend(a: Written, item: &mut u32, size: &mut usize) -> u32
-    ensures { MendTold (saysWritten a) result (at_return item) (at_return size) }
+    ensures { MendTold (saysWritten a) result item.new size.new }
 {
     match a {
         Written::Refused(f) => {

@@ -1,5 +1,7 @@
 // The chain of faults of a call, one link after another: the sheet's own, then a place's, then each lent row's. A lower fault is handed on. And the answer of
 // the calls that write into a row.
+#![tactic(auto)]
+
 ghost use Rattle.std.specs.Prelude.{leb, ltb};
 ghost use Rattle.calls.specs.Refusal.{Next};
 

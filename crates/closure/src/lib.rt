@@ -1,11 +1,12 @@
 // "Before" in rows of marks, worked out pair by pair: events are taken in an order in which what is before comes first, and each pair has the row of
 // its earlier event joined into that of its later one once. Which pairs are skeleton pairs.
 // The numbers of events and pairs and the row `from` say which plan it is; they aren't read.
+#![tactic(auto)]
+
 ghost use Rattle.std.specs.Prelude.{◌+◌, ◌<◌, not, ◌≡◌};
 ghost use Rattle.closure.specs.Carried.{Within, RowCarried};
 ghost use Rattle.closure.specs.InOrder.{CarriedTo};
 ghost use Rattle.closure.specs.PlanRows.{Predecessors};
-ghost use Rattle.ids.specs.Lent.{was, is};
 ghost use Rattle.ids.specs.Limits.{most_events};
 ghost use Rattle.marks.specs.Marks.{meeting};
 ghost use Rattle.sorting.specs.Arranged.{Sorted};
@@ -16,7 +17,7 @@ use ids::{EVENTS, Event, PAIRS, ROWS};
 // Joins the row of one event, and the event itself, into the row of another.
 fn carry(rows: &mut [u32; ROWS], one: Event, other: Event)
     requires { (one.0 < most_events) × (other.0 < most_events) }
-    ensures { RowCarried (was rows) (is rows) one.0 other.0 }
+    ensures { RowCarried rows.old rows.new one.0 other.0 }
 {
     marks::join(rows, one.0, other.0);
     marks::mark(rows, other.0, one.0);
@@ -36,7 +37,7 @@ fn carry_pairs(
 )
     requires sorted { Sorted events pairs from.now to.now first.now next.now queue.now × (h < events) }
     requires carried_to { CarriedTo (plan_by events pairs from.now to.now) queue.now h rows.old }
-    ensures { CarriedTo (plan_by events pairs (was from) (was to)) (was queue) (h + 1) (is rows) }
+    ensures { CarriedTo (plan_by events pairs from.now to.now) queue.now (h + 1) rows.new }
 {
     let u = queue[h] as usize;
     let mut at = first[u] as usize;
@@ -61,7 +62,7 @@ pub fn close(
 )
     requires sorted { Sorted events pairs from.now to.now first.now next.now queue.now }
     requires within { Within (plan_by events pairs from.now to.now) rows.old }
-    ensures { Predecessors (plan_by events pairs (was from) (was to)) (is rows) }
+    ensures { Predecessors (plan_by events pairs from.now to.now) rows.new }
 {
     for h in 0..events {
         carry_pairs(events, pairs, from, to, first, next, queue, h, rows);
@@ -71,7 +72,7 @@ pub fn close(
 // Whether nothing lies between a and b, where `succ` marks what is after a row's event and `pred` what is before it.
 pub fn is_skeleton(succ: &[u32; ROWS], pred: &[u32; ROWS], a: Event, b: Event) -> bool
     requires { (a.0 < most_events) × (b.0 < most_events) }
-    ensures { result ≡ not (meeting (was succ) a.0 (was pred) b.0) }
+    ensures { result ≡ not (meeting succ.now a.0 pred.now b.0) }
 {
     !marks::meets(succ, a.0, pred, b.0)
 }

@@ -1,4 +1,6 @@
 // The two sides of a place's end count: what it opens with and is given, and what is taken from it.
+#![tactic(auto)]
+
 ghost use Rattle.std.specs.Prelude.{◌<◌, ◌≡◌};
 ghost use Rattle.sheet.specs.Faultless.{Faultless};
 ghost use Rattle.layout.specs.Layout.{LayoutOf};

@@ -1,6 +1,5 @@
 -- Walking back along the trail of a search: what stays true of it while givers are exchanged, and what a step does.
 use Rattle.std.specs.Prelude.{ℕ, ◌≤◌, ◌<◌, Bool, true, false, List, ◌⊎◌, ◌≡◌, T, get_or}
-use Rattle.ids.specs.Lent.{Lent, was}
 use Rattle.ids.specs.Limits.{most_events}
 use Rattle.marks.specs.Marks.{marked}
 use Rattle.tokenflow.specs.Rows.{Rows}
@@ -34,9 +33,6 @@ pub record TrailRows : Type 0 where
 
 abbrev pub trail_rows : List ℕ → List ℕ → List ℕ → TrailRows
 trail_rows q o v = record { queue = q; origin = o; via = v }
-
-abbrev pub trail_was : Lent → Lent → Lent → TrailRows
-trail_was queue origin via = trail_rows (was queue) (was origin) (was via)
 
 -- A giver that is ready by these rows, whatever sets and however many takers the search listed.
 abbrev pub IsReady : ℕ → List ℕ → TrailRows → Rows → ℕ → List ℕ → ℕ → List ℕ → Type 0

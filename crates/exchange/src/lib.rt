@@ -1,13 +1,14 @@
 // Exchanges of givers: one feeds a taker in place of another, along the trail of a search, until a taker that lacks tokens draws some.
+#![tactic(auto)]
+
 ghost use Rattle.std.specs.Prelude.{◌<◌, ◌≤◌, T};
-ghost use Rattle.ids.specs.Lent.{was};
 ghost use Rattle.ids.specs.Limits.{most_events};
 ghost use Rattle.marks.specs.Marks.{marked};
 ghost use Rattle.last_mark.specs.Found.{Tells};
-ghost use Rattle.tokenflow.specs.Rows.{rows_were, rows_are};
+ghost use Rattle.tokenflow.specs.Rows.{rows};
 ghost use Rattle.drawing.specs.Moves.{Holds, Moves};
 ghost use Rattle.exchange.specs.Exchange.{Exchanged};
-ghost use Rattle.exchange.specs.Walk.{trail_was, TakerPlace, NextGiver, TellsGiver, Stepped, Walked};
+ghost use Rattle.exchange.specs.Walk.{trail_rows, TakerPlace, NextGiver, TellsGiver, Stepped, Walked};
 
 use drawing::{draw_most, least};
 use ids::{EVENTS, Event, ROWS};
@@ -26,10 +27,10 @@ pub fn exchange(
     v: Event,
     n: usize,
 ) -> u32
-    requires holds { Holds n pred amount fed free share }
+    requires holds { Holds n pred.now amount.old fed.old free.old share.old }
     requires u_lt_n { (u.0 < n) × (w.0 < n) × (v.0 < n) }
     requires t { T (marked pred.now w.0 u.0) × T (marked fed.old v.0 w.0) }
-    ensures { Exchanged n (was pred) (rows_were amount fed free share) (rows_are amount fed free share) u.0 w.0 v.0 result }
+    ensures { Exchanged n pred.now (rows amount.old fed.old free.old share.old) (rows amount.new fed.new free.new share.new) u.0 w.0 v.0 result }
 {
     let feeder = u.0;
     let at = v.0 * EVENTS + w.0;
@@ -51,7 +52,7 @@ fn taker_place(
     n: usize,
 ) -> Found
     requires { (u.0 < n) × (n ≤ most_events) }
-    ensures { Tells (TakerPlace n (was pred) (was queue) (was via) u.0) result }
+    ensures { Tells (TakerPlace n pred.now queue.now via.now u.0) result }
 {
     let giver = u.0;
     let at = via[giver];
@@ -85,7 +86,7 @@ fn next_giver(
     n: usize,
 ) -> Giver
     requires { (at < most_events) × (w.0 < n) × (n ≤ most_events) }
-    ensures { TellsGiver (NextGiver n (was origin) (was via) (was fed) at w.0) result }
+    ensures { TellsGiver (NextGiver n origin.now via.now fed.now at w.0) result }
 {
     let v = origin[at];
     if v >= n {
@@ -121,10 +122,10 @@ fn walk_step(
     u: Event,
     n: usize,
 ) -> Step
-    requires holds { Holds n pred amount fed free share }
+    requires holds { Holds n pred.now amount.old fed.old free.old share.old }
     requires u_lt_n { u.0 < n }
-    ensures moves { Moves n pred amount fed free share }
-    ensures stepped { Stepped n (was pred) (trail_was queue origin via) (rows_were amount fed free share) (rows_are amount fed free share) u.0 result }
+    ensures moves { Moves n pred.now amount.old amount.new fed.old fed.new free.old free.new share.old share.new }
+    ensures stepped { Stepped n pred.now (trail_rows queue.now origin.now via.now) (rows amount.old fed.old free.old share.old) (rows amount.new fed.new free.new share.new) u.0 result }
 {
     let giver = u.0;
     if free[giver] == 0 {
@@ -161,10 +162,10 @@ pub fn walk(
     u: Event,
     n: usize,
 ) -> bool
-    requires holds { Holds n pred amount fed free share }
+    requires holds { Holds n pred.now amount.old fed.old free.old share.old }
     requires u_lt_n { u.0 < n }
-    ensures moves { Moves n pred amount fed free share }
-    ensures walked { Walked n (was pred) (trail_was queue origin via) (rows_were amount fed free share) (rows_are amount fed free share) u.0 result }
+    ensures moves { Moves n pred.now amount.old amount.new fed.old fed.new free.old free.new share.old share.new }
+    ensures walked { Walked n pred.now (trail_rows queue.now origin.now via.now) (rows amount.old fed.old free.old share.old) (rows amount.new fed.new free.new share.new) u.0 result }
 {
     let mut giver = u;
     loop {

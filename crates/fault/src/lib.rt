@@ -1,6 +1,7 @@
 // The fault of a sheet, over any bytes, and its layout and the order of its plan where it has none.
+#![tactic(auto)]
+
 ghost use Rattle.std.specs.Prelude.{◌≡◌};
-ghost use Rattle.ids.specs.Lent.{is};
 ghost use Rattle.sheet.specs.Items.{plan_of};
 ghost use Rattle.sheet.specs.Faults.{content_faults, first_fault, fault_of};
 ghost use Rattle.layout.specs.Layout.{LayoutOf, LaidBy, WithinLimits};
@@ -30,7 +31,7 @@ fn content_fault(
     requires laid_by { LaidBy s.now l }
     requires blank { Blank succ.old × Blank pred.old }
     ensures value { result ≡ first_fault content_faults s.now }
-    ensures wanted_rows { result.number ≡ 0 → WantedRows wanted (plan_of s.now) (is succ) (is pred) }
+    ensures wanted_rows { result.number ≡ 0 → WantedRows wanted (plan_of s.now) succ.new pred.new }
 {
     let number = number_fault(s, l);
     if number.number != 0 {
@@ -53,7 +54,7 @@ pub fn examine(s: &[u8], wanted: Wanted, succ: &mut [u32; ROWS], pred: &mut [u32
     requires { Blank succ.old × Blank pred.old }
     ensures fault_value { result.fault ≡ fault_of s.now }
     ensures within_limits { WithinLimits result.layout }
-    ensures layout_of { result.fault.number ≡ 0 → LayoutOf s.now result.layout × WantedRows wanted (plan_of s.now) (is succ) (is pred) }
+    ensures layout_of { result.fault.number ≡ 0 → LayoutOf s.now result.layout × WantedRows wanted (plan_of s.now) succ.new pred.new }
 {
     let misplaced = layout_fault(s);
     if misplaced.number != 0 {

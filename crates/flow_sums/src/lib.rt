@@ -1,6 +1,7 @@
 // What a flow row adds up to: what its pairs carry into each event and out of it, where they keep rule 4, and its shares.
+#![tactic(auto)]
+
 ghost use Rattle.std.specs.Prelude.{◌+◌, ◌<◌, ◌≤◌, true, not, ◌||◌, ◌≡◌, eqb, length, get_or, replicate};
-ghost use Rattle.ids.specs.Lent.{was, is};
 ghost use Rattle.ids.specs.Limits.{most_events, most_pairs};
 ghost use Rattle.marks.specs.Marks.{meeting};
 ghost use Rattle.plan.specs.Flow.{rule4};
@@ -27,7 +28,7 @@ pub fn wide(x: u32) -> u64
 // Adds x to the sum at v.
 fn raise(sums: &mut [u64], v: Event, x: u32)
     requires { (v.0 < length sums.old) × (get_or sums.old v.0 0 ≤ most_sum) }
-    ensures { SumRaised (was sums) (is sums) v.0 x }
+    ensures { SumRaised sums.old sums.new v.0 x }
 {
     let i = v.0;
     sums[i] += wide(x);
@@ -36,7 +37,7 @@ fn raise(sums: &mut [u64], v: Event, x: u32)
 // Rule 4 at one pair: whether it is a skeleton pair or carries 0.
 fn may_carry(succ: &[u32; ROWS], pred: &[u32; ROWS], a: Event, b: Event, x: u32) -> bool
     requires { (a.0 < most_events) × (b.0 < most_events) }
-    ensures { result ≡ (not (meeting (was succ) a.0 (was pred) b.0) || eqb x 0) }
+    ensures { result ≡ (not (meeting succ.now a.0 pred.now b.0) || eqb x 0) }
 {
     if x == 0 {
         return true;
@@ -58,8 +59,8 @@ pub fn add_pairs(
     requires order_rows { OrderRows (plan_of s.now) succ.now pred.now }
     requires pairs_in_bounds { l.pairs ≤ length row.now }
     requires into_value { (into.old ≡ replicate most_events 0) × (out.old ≡ replicate most_events 0) }
-    ensures value { result ≡ rule4 (plan_of (was s)) (flow_of (was row)) }
-    ensures pair_sums { result ≡ true → PairSums (plan_of (was s)) (flow_of (was row)) (pairs_of (was s)) (is into) (is out) }
+    ensures value { result ≡ rule4 (plan_of s.now) (flow_of row.now) }
+    ensures pair_sums { result ≡ true → PairSums (plan_of s.now) (flow_of row.now) (pairs_of s.now) into.new out.new }
 {
     for i in 0..l.pairs {
         let a = earlier(s, l, i);
@@ -78,7 +79,7 @@ pub fn add_pairs(
 pub fn add_shares(row: &[u32], pairs: usize, events: usize) -> u64
     requires pairs_le_most_pairs { (pairs ≤ most_pairs) × (events ≤ most_events) }
     requires events_in_bounds { pairs + events ≤ length row.now }
-    ensures { result ≡ shares_of (was row) pairs events }
+    ensures { result ≡ shares_of row.now pairs events }
 {
     let mut total: u64 = 0;
     for v in 0..events {

@@ -1,6 +1,7 @@
 // The flow check: whether a lent flow row is a valid compact tokenflow for one place of a sheet. The row is only read.
+#![tactic(auto)]
+
 ghost use Rattle.std.specs.Prelude.{◌+◌, ◌<◌, ◌≤◌, ◌≡◌, length};
-ghost use Rattle.ids.specs.Lent.{was};
 ghost use Rattle.plan.specs.Flow.{valid};
 ghost use Rattle.sheet.specs.Table.{pairs_of};
 ghost use Rattle.sheet.specs.Items.{net_of, plan_of};
@@ -44,7 +45,7 @@ fn event_keeps(
     requires faultless { Faultless s.now × LayoutOf s.now l }
     requires p_lt_places { (p.0 < l.places) × (v.0 < l.events) × (l.pairs + l.events ≤ length row.now) }
     requires pair_sums { PairSums (plan_of s.now) (flow_of row.now) (pairs_of s.now) into.now out.now }
-    ensures { result ≡ kept_at (net_of (was s)) (plan_of (was s)) p.0 (flow_of (was row)) v.0 }
+    ensures { result ≡ kept_at (net_of s.now) (plan_of s.now) p.0 (flow_of row.now) v.0 }
 {
     let t = label(s, l, v);
     let i = v.0;
@@ -64,7 +65,7 @@ fn is_balanced(
     requires faultless { Faultless s.now × LayoutOf s.now l }
     requires p_lt_places { (p.0 < l.places) × (l.pairs + l.events ≤ length row.now) }
     requires pair_sums { PairSums (plan_of s.now) (flow_of row.now) (pairs_of s.now) into.now out.now }
-    ensures { result ≡ balanced (net_of (was s)) (plan_of (was s)) p.0 (flow_of (was row)) }
+    ensures { result ≡ balanced (net_of s.now) (plan_of s.now) p.0 (flow_of row.now) }
 {
     for v in 0..l.events {
         if !event_keeps(s, l, p, row, into, out, Event(v)) {
@@ -86,7 +87,7 @@ fn is_valid(
     requires faultless { Faultless s.now × LayoutOf s.now l }
     requires p_lt_places { (p.0 < l.places) × (l.pairs + l.events ≤ length row.now) }
     requires order_rows { OrderRows (plan_of s.now) succ.now pred.now }
-    ensures { result ≡ valid (net_of (was s)) (plan_of (was s)) p.0 (flow_of (was row)) }
+    ensures { result ≡ valid (net_of s.now) (plan_of s.now) p.0 (flow_of row.now) }
 {
     let mut into = [0u64; EVENTS];
     let mut out = [0u64; EVENTS];
@@ -102,7 +103,7 @@ fn is_valid(
 
 // The flow check: Valid exactly if the row is valid. Any numbers may stand in it.
 pub fn check_flow(s: &[u8], p: Place, row: &[u32]) -> Checked
-    ensures { says result ≡ check_says (was s) p.0 (was row) }
+    ensures { says result ≡ check_says s.now p.0 row.now }
 {
     let mut succ = [0u32; ROWS];
     let mut pred = [0u32; ROWS];

@@ -1,8 +1,9 @@
 // A tokenflow on "before", folded onto the skeleton pairs: the compact tokenflow (003, theorem 2) in a lent row.
 // No sheet is read here. A plan stands in the contracts alone: some plan has the rows that are lent, and what is promised holds of
 // every plan that has them.
+#![tactic(auto)]
+
 ghost use Rattle.std.specs.Prelude.{◌+◌, ◌*◌, ◌<◌, ◌≤◌, ◌≡◌, length, get_or};
-ghost use Rattle.ids.specs.Lent.{was, is};
 ghost use Rattle.ids.specs.Limits.{most_events};
 ghost use Rattle.fold.specs.Promises.{MayStep, SteppedBack, MayTrace, Traced, Spacious, MayFold, AllFolded, MayFoldGiver, GiverFolded};
 ghost use Rattle.fold.specs.Written.{raised_by, Zeros, SharesFrom};
@@ -16,9 +17,9 @@ use skeleton::{INDEX, pair_number};
 // One skeleton pair back from `cur` toward u, which is before it.
 fn step_back(succ: &[u32; ROWS], skel: &[u32; ROWS], u: Event, cur: Event) -> Event
     requires u_lt_most_events { (u.0 < most_events) × (cur.0 < most_events) }
-    requires may_step { MayStep succ skel u.0 cur.0 }
+    requires may_step { MayStep succ.now skel.now u.0 cur.0 }
     ensures result_lt_most_events { result.0 < most_events }
-    ensures stepped_back { SteppedBack succ skel u.0 cur.0 result.0 }
+    ensures stepped_back { SteppedBack succ.now skel.now u.0 cur.0 result.0 }
 {
     if is_marked(skel, cur.0, u.0) {
         return u;
@@ -33,7 +34,7 @@ fn step_back(succ: &[u32; ROWS], skel: &[u32; ROWS], u: Event, cur: Event) -> Ev
 fn carry(row: &mut [u32], i: usize, k: u32)
     requires i_in_bounds { i < length row.old }
     requires k_bound { get_or row.old i 0 + k < 4294967296 }
-    ensures { is row ≡ raised_by (was row) i k }
+    ensures { row.new ≡ raised_by row.old i k }
 {
     row[i] += k;
 }
@@ -49,9 +50,9 @@ fn trace(
     k: u32,
 )
     requires u_lt_most_events { (u.0 < most_events) × (w.0 < most_events) }
-    requires may_trace { MayTrace succ skel index row u.0 w.0 }
+    requires may_trace { MayTrace succ.now skel.now index.now row.old u.0 w.0 }
     requires spacious { Spacious row.old k }
-    ensures { Traced succ skel index row u.0 w.0 k }
+    ensures { Traced succ.now skel.now index.now row.old row.new u.0 w.0 k }
 {
     let mut cur = w;
     while cur.0 != u.0 {
@@ -66,7 +67,7 @@ fn trace(
 fn tokens(amount: &[u32], u: Event, w: Event) -> u32
     requires u_lt_most_events { (u.0 < most_events) × (w.0 < most_events) }
     requires w_in_bounds { u.0 * most_events + w.0 < length amount.now }
-    ensures { result ≡ get_or (was amount) (u.0 * most_events + w.0) 0 }
+    ensures { result ≡ get_or amount.now (u.0 * most_events + w.0) 0 }
 {
     let at = u.0 * EVENTS + w.0;
     amount[at]
@@ -84,8 +85,8 @@ fn fold_giver(
     n: usize,
 )
     requires u_lt_n { (u.0 < n) × (n ≤ most_events) }
-    requires may_fold_giver { MayFoldGiver n u.0 succ skel index amount fed row }
-    ensures { GiverFolded n u.0 succ skel index amount fed row }
+    requires may_fold_giver { MayFoldGiver n u.0 succ.now skel.now index.now amount.now fed.now row.old }
+    ensures { GiverFolded n u.0 succ.now skel.now index.now amount.now fed.now row.old row.new }
 {
     for w in 0..n {
         if is_marked(fed, u.0, w) {
@@ -106,9 +107,9 @@ fn fold_givers(
     n: usize,
 )
     requires n_le_most_events { n ≤ most_events }
-    requires may_fold { MayFold n (length row.old) succ skel index amount fed }
+    requires may_fold { MayFold n (length row.old) succ.now skel.now index.now amount.now fed.now }
     requires zeros { Zeros row.old }
-    ensures { AllFolded n (length (was row)) succ skel index amount fed row }
+    ensures { AllFolded n (length row.old) succ.now skel.now index.now amount.now fed.now row.new }
 {
     for u in 0..n {
         fold_giver(succ, skel, index, amount, fed, row, Event(u), n);
@@ -125,8 +126,8 @@ fn fold(
     row: &mut [u32],
     n: usize,
 )
-    requires { MayFold n (length row.old) succ skel index amount fed }
-    ensures { AllFolded n (length (was row)) succ skel index amount fed row }
+    requires { MayFold n (length row.old) succ.now skel.now index.now amount.now fed.now }
+    ensures { AllFolded n (length row.old) succ.now skel.now index.now amount.now fed.now row.new }
 {
     put_words(row, row.len(), 0);
     fold_givers(succ, skel, index, amount, fed, row, n);
@@ -144,10 +145,10 @@ pub fn write_flow(
     pairs: usize,
     n: usize,
 )
-    requires may_fold { MayFold n pairs succ skel index amount fed }
+    requires may_fold { MayFold n pairs succ.now skel.now index.now amount.now fed.now }
     requires n_in_bounds { pairs + n ≤ length row.old }
-    ensures all_folded { AllFolded n pairs succ skel index amount fed row }
-    ensures shares_from { SharesFrom pairs (was row) (is row) (was share) n }
+    ensures all_folded { AllFolded n pairs succ.now skel.now index.now amount.now fed.now row.new }
+    ensures shares_from { SharesFrom pairs row.old row.new share.now n }
 {
     fold(succ, skel, index, amount, fed, &mut row[..pairs], n);
     write_shares(&mut row[pairs..], share, n);

@@ -1,6 +1,7 @@
 // The free count of a plan, from the rows of marks that say what is before each event.
+#![tactic(auto)]
+
 ghost use Rattle.std.specs.Prelude.{◌≤◌, ◌≡◌};
-ghost use Rattle.ids.specs.Lent.{was};
 ghost use Rattle.ids.specs.Limits.{most_events};
 ghost use Rattle.free_pairs.specs.FreeRows.{SomeOrder, FreeBy, ordered_in};
 
@@ -10,7 +11,7 @@ use mark_count::count_marks;
 // How many marks the first n rows have: one for each two events that are ordered.
 fn count_ordered(pred: &[u32; ROWS], n: usize) -> usize
     requires { n ≤ most_events }
-    ensures { result ≡ ordered_in (was pred) n }
+    ensures { result ≡ ordered_in pred.now n }
 {
     let mut sum: usize = 0;
     for v in 0..n {
@@ -23,7 +24,7 @@ fn count_ordered(pred: &[u32; ROWS], n: usize) -> usize
 pub fn free_count(pred: &[u32; ROWS], n: usize) -> u32
     requires n_le_most_events { n ≤ most_events }
     requires some_order { SomeOrder pred.now n }
-    ensures { FreeBy (was pred) n result }
+    ensures { FreeBy pred.now n result }
 {
     let ordered = count_ordered(pred, n);
     let both_ways = n * n - n;

@@ -6,7 +6,6 @@ use Rattle.plan.specs.Prefix.{missing, smallest}
 use Rattle.sheet.specs.Items.{net_of, plan_of}
 use Rattle.calls.specs.FlowRow.{flow_length, flow_of}
 use Rattle.calls.specs.Overwritten.{overwritten}
-use Rattle.ids.specs.Lent.{Held}
 use Rattle.ids.specs.declared.Place.{Place}
 use Rattle.sheet.specs.Table.{events_of}
 use Rattle.place.specs.Judged.{JudgedIn}
@@ -34,6 +33,6 @@ abbrev pub valid_at : List ℕ → ℕ → List ℕ → Bool
 valid_at s p flow = valid (net_of s) (plan_of s) p (flow_of flow)
 
 -- The rows show that m tokens are missing.
-abbrev pub ShownBy : Held → Place → Held → Held → Held → Held → ℕ → Type 0
+abbrev pub ShownBy : List ℕ → Place → List ℕ → List ℕ → List ℕ → List ℕ → ℕ → Type 0
 ShownBy s p pred amount fed share m =
-    (givers : List ℕ) × JudgedIn s.now p.0 pred.now amount.now fed.now share.now givers m
+    (givers : List ℕ) × JudgedIn s p.0 pred amount fed share givers m

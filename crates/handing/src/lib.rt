@@ -1,7 +1,8 @@
 // A place of a sheet without fault judged with the amounts that are lent, and what it hands over: a valid flow, or zeros and the done set.
+#![tactic(auto)]
+
 ghost use Rattle.std.specs.Prelude.{◌+◌, ◌*◌, ◌<◌, ◌≤◌, T, length};
 ghost use Rattle.fold.specs.Written.{SharesFrom};
-ghost use Rattle.ids.specs.Lent.{was, is};
 ghost use Rattle.ids.specs.Limits.{most_events};
 ghost use Rattle.layout.specs.Layout.{LayoutOf};
 ghost use Rattle.order.specs.Rows.{OrderRows};
@@ -34,10 +35,10 @@ fn hand_over(
     requires layout_of { LayoutOf s.now l }
     requires p_lt_places { p.0 < l.places }
     requires order_rows { OrderRows (plan_of s.now) succ.now pred.now }
-    requires shown_by { ShownBy s p pred amount fed share 0 }
+    requires shown_by { ShownBy s.now p pred.now amount.now fed.now share.now 0 }
     requires events_in_bounds { l.pairs + l.events ≤ length flow.old }
-    ensures t { T (valid_at (was s) p.0 (is flow)) }
-    ensures shares_from { SharesFrom l.pairs (was flow) (is flow) (was share) l.events }
+    ensures t { T (valid_at s.now p.0 flow.new) }
+    ensures shares_from { SharesFrom l.pairs flow.old flow.new share.now l.events }
 {
     let mut skel = [0u32; ROWS];
     let mut index = [0u16; INDEX];
@@ -64,9 +65,9 @@ pub fn hand_flow(
     requires layout_of { LayoutOf s.now l }
     requires p_lt_places { p.0 < l.places }
     requires order_rows { OrderRows (plan_of s.now) succ.now pred.now }
-    requires shown_by { ShownBy s p pred amount fed share m }
+    requires shown_by { ShownBy s.now p pred.now amount.now fed.now share.now m }
     requires events_in_bounds { l.pairs + l.events ≤ length flow.old }
-    ensures { Written (was s) p.0 (was flow) (is flow) }
+    ensures { Written s.now p.0 flow.old flow.new }
 {
     if m == 0 {
         hand_over(s, l, p, succ, pred, amount, fed, share, flow);
@@ -87,9 +88,9 @@ pub fn judge_in(
     flow: &mut [u32],
     marks: &mut [u8],
 ) -> i32
-    requires judgeable { Judgeable s l p succ pred flow marks }
+    requires judgeable { Judgeable s.now l p succ.now pred.now flow.old marks.old }
     requires most_events_in_bounds { l.events * most_events ≤ length amount.old }
-    ensures { JudgedBy s p flow marks result }
+    ensures { JudgedBy s.now p flow.old flow.new marks.old marks.new result }
 {
     let mut fed = [0u32; ROWS];
     let mut share = [0u32; EVENTS];

@@ -1,5 +1,6 @@
 // The numbers of places, transitions and events, which cannot be mixed up; how many of each a sheet may have; and the sizes of rows made
 // of that.
+#![tactic(auto)]
 
 // Exported calls take it, and C passes it as a `size_t`.
 #[repr(C)]

@@ -1,4 +1,6 @@
 // Faults 5 to 9, item after item up to the first at fault, on a sheet whose layout has no fault.
+#![tactic(auto)]
+
 ghost use Rattle.std.specs.Prelude.{◌<◌, ◌≡◌};
 ghost use Rattle.sheet.specs.Faults.{over_opening, over_weight_in, over_weight, no_transition, no_event, self_pair, number_faults, first_fault};
 ghost use Rattle.sheet.specs.Told.{tell};

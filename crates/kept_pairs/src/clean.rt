@@ -1,7 +1,6 @@
 // The clean sheet, written into a row that has room for the sheet given.
 ghost use Rattle.std.specs.Prelude.{◌+◌, ◌*◌, ◌≤◌, ◌≡◌, length};
 ghost use Rattle.finite.specs.Each.{each};
-ghost use Rattle.ids.specs.Lent.{was, is};
 ghost use Rattle.ids.specs.Limits.{most_pairs};
 ghost use Rattle.layout.specs.Layout.{LaidBy};
 ghost use Rattle.reasons.specs.KeptRows.{HoldsKept};
@@ -19,7 +18,7 @@ use writer::{lay_out, put_pair, put_part, put_table};
 fn put_kept(kept: usize, from: &[u8; PAIRS], to: &[u8; PAIRS], clean: &mut [u8], at: usize) -> usize
     requires kept_le_most_pairs { (kept ≤ most_pairs) × Events kept from.now × Events kept to.now }
     requires kept_in_bounds { at + 4 * kept ≤ length clean.old }
-    ensures { Put (was clean) (is clean) at (each kept (rows_bytes (was from) (was to))) result }
+    ensures { Put clean.old clean.new at (each kept (rows_bytes from.now to.now)) result }
 {
     let mut end = at;
     for k in 0..kept {
@@ -41,7 +40,7 @@ pub fn put_clean(
 ) -> usize
     requires laid_by { LaidBy s.now l }
     requires holds_kept { HoldsKept s.now (pairs_of s.now) from.now to.now × (kept ≡ kept_count s.now) × (length s.now ≤ length clean.old) }
-    ensures { Put (was clean) (is clean) 0 (clean_of (was s)) result }
+    ensures { Put clean.old clean.new 0 (clean_of s.now) result }
 {
     let table = put_table(clean, lay_out(l.places, l.transitions, l.events, kept));
     let bodies = put_part(clean, table, s, l.places_at, l.pairs_at);

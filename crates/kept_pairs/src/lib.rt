@@ -1,8 +1,9 @@
 // The pairs of a sheet that are kept: the reasons of the others and whether those that are kept have a cycle; and the clean sheet with them.
+#![tactic(auto)]
+
 pub mod clean;
 
 ghost use Rattle.std.specs.Prelude.{◌≤◌, ◌≡◌, length};
-ghost use Rattle.ids.specs.Lent.{was, is};
 ghost use Rattle.ids.specs.Limits.{most_pairs};
 ghost use Rattle.layout.specs.Layout.{LaidBy};
 ghost use Rattle.reasons.specs.Reasons.{kept_cycle};
@@ -27,7 +28,7 @@ pub struct PairsExamined {
 // 11, on the pairs that are kept.
 fn cycle_fault(events: usize, kept: usize, from: &[u8; PAIRS], to: &[u8; PAIRS]) -> Fault
     requires { PlanInRows events kept from.now to.now }
-    ensures { result ≡ tell 11 (plain (has_cycle (plan_by events kept (was from) (was to)))) }
+    ensures { result ≡ tell 11 (plain (has_cycle (plan_by events kept from.now to.now))) }
 {
     if has_cycle(events, kept, from, to) {
         return plain_fault(11);
@@ -45,8 +46,8 @@ pub fn examine_pairs(
 ) -> PairsExamined
     requires laid_by { LaidBy s.now l }
     requires most_pairs_in_bounds { most_pairs ≤ length reasons.old }
-    ensures fault_value { (result.examined.fault ≡ tell 11 (plain (kept_cycle (was s)))) × (result.examined.layout ≡ l) }
-    ensures pairs_known { PairsKnown (was s) (was reasons) (is reasons) (is from) (is to) result.kept }
+    ensures fault_value { (result.examined.fault ≡ tell 11 (plain (kept_cycle s.now))) × (result.examined.layout ≡ l) }
+    ensures pairs_known { PairsKnown s.now reasons.old reasons.new from.new to.new result.kept }
 {
     let kept = give_reasons(s, l, reasons, from, to);
     let fault = cycle_fault(l.events, kept, from, to);

@@ -1,7 +1,8 @@
 // The last line of a listing: the first short place and its done events, or that the plan runs. A call returns where its text ends and
 // leaves the rest of the row.
+#![tactic(auto)]
+
 ghost use Rattle.std.specs.Prelude.{◌+◌, ◌<◌, ◌≤◌, length};
-ghost use Rattle.ids.specs.Lent.{was, is};
 ghost use Rattle.ids.specs.Limits.{most_places, most_events};
 ghost use Rattle.search.specs.Row.{members};
 ghost use Rattle.summary.specs.Summary.{verdict_number};
@@ -18,7 +19,7 @@ use text::{put_field, put_word};
 // An event that is done, after a space.
 fn put_event(row: &mut [u8], at: usize, done: &[u32; WORDS], v: Event) -> usize
     requires { (v.0 < most_events) × (at + event_room ≤ length row.old) }
-    ensures { Put (was row) (is row) at (event_in (members (was done)) v.0) result × (result ≤ at + event_room) }
+    ensures { Put row.old row.new at (event_in (members done.now) v.0) result × (result ≤ at + event_room) }
 {
     if is_marked(done, 0, v.0) {
         return put_field(row, at, b" ", v.0 as u32);
@@ -29,7 +30,7 @@ fn put_event(row: &mut [u8], at: usize, done: &[u32; WORDS], v: Event) -> usize
 // The events that are done, each after a space.
 fn put_events(row: &mut [u8], at: usize, done: &[u32; WORDS], n: usize) -> usize
     requires { (n ≤ most_events) × (at + events_room ≤ length row.old) }
-    ensures { Put (was row) (is row) at (each n (event_in (members (was done)))) result × (result ≤ at + events_room) }
+    ensures { Put row.old row.new at (each n (event_in (members done.now))) result × (result ≤ at + events_room) }
 {
     let mut end = at;
     for v in 0..n {
@@ -41,7 +42,7 @@ fn put_events(row: &mut [u8], at: usize, done: &[u32; WORDS], n: usize) -> usize
 // The events that are done, or `none`.
 fn put_done(row: &mut [u8], at: usize, done: &[u32; WORDS], n: usize) -> usize
     requires { (n ≤ most_events) × (at + events_room ≤ length row.old) }
-    ensures { Put (was row) (is row) at (done_events n (members (was done))) result × (result ≤ at + events_room) }
+    ensures { Put row.old row.new at (done_events n (members done.now)) result × (result ≤ at + events_room) }
 {
     let end = put_events(row, at, done, n);
     if end == at {
@@ -53,7 +54,7 @@ fn put_done(row: &mut [u8], at: usize, done: &[u32; WORDS], n: usize) -> usize
 // The first short place and its done events.
 fn put_first(row: &mut [u8], at: usize, p: Place, done: &[u32; WORDS], n: usize) -> usize
     requires { (p.0 < most_places) × (n ≤ most_events) × (at + first_room ≤ length row.old) }
-    ensures { Put (was row) (is row) at (first_line p.0 n (members (was done))) result }
+    ensures { Put row.old row.new at (first_line p.0 n (members done.now)) result }
 {
     let a = put_field(row, at, b"first ", p.0 as u32);
     let b = put_word(row, a, b" done");
@@ -63,7 +64,7 @@ fn put_first(row: &mut [u8], at: usize, p: Place, done: &[u32; WORDS], n: usize)
 
 fn put_runs(row: &mut [u8], at: usize) -> usize
     requires { at + runs_room ≤ length row.old }
-    ensures { Put (was row) (is row) at runs_line result }
+    ensures { Put row.old row.new at runs_line result }
 {
     put_word(row, at, b"runs\n")
 }
@@ -72,7 +73,7 @@ fn put_runs(row: &mut [u8], at: usize) -> usize
 pub fn put_verdict(v: Verdict, done: &[u32; WORDS], n: usize, row: &mut [u8], at: usize) -> usize
     requires v_bound { verdict_number v < 1000 + most_places }
     requires n_le_most_events { (n ≤ most_events) × (at + first_room ≤ length row.old) }
-    ensures { Put (was row) (is row) at (last_line v n (members (was done))) result }
+    ensures { Put row.old row.new at (last_line v n (members done.now)) result }
 {
     match v {
         Verdict::Runs => put_runs(row, at),

@@ -1,6 +1,7 @@
 // The last mark that two rows of marks have in common, or that one has and the other lacks.
+#![tactic(auto)]
+
 ghost use Rattle.std.specs.Prelude.{◌<◌};
-ghost use Rattle.ids.specs.Lent.{was};
 ghost use Rattle.marks.specs.Marks.{HasRow, SetBit};
 ghost use Rattle.last_mark.specs.Found.{Both, Only, Tells};
 
@@ -26,7 +27,7 @@ fn top(x: u32) -> usize
 pub fn last_common(a: &[u32], i: usize, b: &[u32], j: usize) -> Found
     requires has_row { HasRow a.now i }
     requires has_row_2 { HasRow b.now j }
-    ensures { Tells (Both (was a) i (was b) j) result }
+    ensures { Tells (Both a.now i b.now j) result }
 {
     let mut k: usize = WORDS;
     while k > 0 {
@@ -43,7 +44,7 @@ pub fn last_common(a: &[u32], i: usize, b: &[u32], j: usize) -> Found
 pub fn last_only(a: &[u32], i: usize, b: &[u32], j: usize) -> Found
     requires has_row { HasRow a.now i }
     requires has_row_2 { HasRow b.now j }
-    ensures { Tells (Only (was a) i (was b) j) result }
+    ensures { Tells (Only a.now i b.now j) result }
 {
     let mut k: usize = WORDS;
     while k > 0 {

@@ -1,6 +1,8 @@
 // Where the bodies of a sheet start and how many items each has, read from its table of contents, and the faults of that table. Nothing here has a
 // loop.
 // That the table has 32 bytes is said here alone: whoever looks for an item goes by the layout.
+#![tactic(auto)]
+
 ghost use Rattle.std.specs.Prelude.{ℕ, ◌<◌, ◌≤◌, List, ◌≡◌, length};
 ghost use Rattle.sheet.specs.Table.{table_length, start, count};
 ghost use Rattle.sheet.specs.Faults.{too_short, over_limit, wrong_end, layout_faults, first_fault};

@@ -4,7 +4,6 @@ use Rattle.std.proofs.Common.{arith, ⊎_elim, ap, subst, ◌∙◌, ltb→lt, n
 use Rattle.finite.specs.Bounded.{decide}
 use Rattle.finite.specs.Filled.{Filled}
 use Rattle.finite.specs.Sum.{sum_zero, on_no}
-use Rattle.ids.specs.Lent.{Held}
 use Rattle.ids.specs.Limits.{most_events, row_words}
 use Rattle.marks.specs.Marks.{marked, bit, bit_none, none_marked}
 use Rattle.plan.specs.Net.{Net, Plan, taken_by, given_by}
@@ -30,8 +29,8 @@ pub record PlaceRows (N : Net) (P : Plan) (p n : ℕ) (pred free share : List �
   pub small_takes : Small share n
 
 -- They are those of some place.
-abbrev pub SomePlace : ℕ → Held → Held → Held → Type 0
-SomePlace n pred free share = (N : Net) × (P : Plan) × (p : ℕ) × PlaceRows N P p n pred.now free.now share.now
+abbrev pub SomePlace : ℕ → List ℕ → List ℕ → List ℕ → Type 0
+SomePlace n pred free share = (N : Net) × (P : Plan) × (p : ℕ) × PlaceRows N P p n pred free share
 
 -- what is before an event is an event
 pub rows_order : (N : Net) (P : Plan) (p n : ℕ) (pred free share : List ℕ) → PlaceRows N P p n pred free share → Order n pred
@@ -42,8 +41,8 @@ pub record UnfedFrom (n : ℕ) (fed : List ℕ) : Type 0 where
   pub none : (u w : ℕ) → n ≤ u → u < most_events → w < most_events → T (marked fed u w) → ⊥
 
 -- Working rows for n events: an amount for each of them and any event, and marks that can be cleared by clearing theirs.
-abbrev pub RowsFor : ℕ → Held → Held → Type 0
-RowsFor n amount fed = (n * most_events ≤ length amount.now) × UnfedFrom n fed.now
+abbrev pub RowsFor : ℕ → List ℕ → List ℕ → Type 0
+RowsFor n amount fed = (n * most_events ≤ length amount) × UnfedFrom n fed
 
 -- a row of 0 has no mark
 pub zeros_unfed : (n k : ℕ) → UnfedFrom n (replicate k 0)

@@ -8,7 +8,6 @@ use Rattle.std.proofs.Math.Dec.{nleb→lt}
 use Rattle.std.proofs.Math.ListN.{get_or}
 use Rattle.finite.specs.Bounded.{decide}
 use Rattle.finite.specs.Sum.{sum, sum_of, on_no}
-use Rattle.ids.specs.Lent.{Lent, was, is}
 use Rattle.ids.specs.Limits.{most_events}
 use Rattle.marks.specs.Marks.{marked}
 use Rattle.plan.specs.Net.{Net, Plan}
@@ -16,7 +15,7 @@ use Rattle.plan.specs.Prefix.{least_opening, missing, smallest}
 use Rattle.theory.specs.Skeleton.{before-earlier}
 use Rattle.theory.specs.Missing.{missing_opening}
 use Rattle.theory.specs.Tokenflow.{Tokenflow, Settled, least_within, settled-least, settled-smallest}
-use Rattle.tokenflow.specs.Rows.{fed_by, Rows, rows_are}
+use Rattle.tokenflow.specs.Rows.{fed_by, Rows, rows}
 use Rattle.tokenflow.specs.Flowing.{Flowing, Kept, given_in, taken_in, lacking}
 use Rattle.drawing.specs.Moves.{Moved}
 use Rattle.search.specs.Row.{members}
@@ -39,10 +38,10 @@ pub record PlaceSettled (N : Net) (P : Plan) (p enough : ℕ) (pred : List ℕ) 
   pub set : enough < lacks → 0 < missing N P p → smallest N P p ≡ members givers
 
 -- so it is for every place that has these rows
-abbrev pub Settles : ℕ → Lent → Lent → Lent → Lent → Lent → Lent → ℕ → ℕ → Type 0
-Settles n pred amount fed free share givers enough lacks =
-    (N : Net) (P : Plan) (p : ℕ) → PlaceRows N P p n (was pred) (was free) (was share)
-    → PlaceSettled N P p enough (was pred) (rows_are amount fed free share) (is givers) lacks
+abbrev pub Settles : ℕ → List ℕ → List ℕ → List ℕ → List ℕ → List ℕ → List ℕ → List ℕ → List ℕ → ℕ → ℕ → Type 0
+Settles n pred amount fed free free' share share' givers enough lacks =
+    (N : Net) (P : Plan) (p : ℕ) → PlaceRows N P p n pred free share
+    → PlaceSettled N P p enough pred (rows amount fed free' share') givers lacks
 
 -- It tells what is missing if what is enough doesn't pass the opening count; with 0 for what is enough, it is the least opening count.
 module _ (N : Net) (P : Plan) (p enough : ℕ) (pred : List ℕ) (r : Rows) (givers : List ℕ) (lacks : ℕ) (s : PlaceSettled N P p enough pred r givers lacks) where

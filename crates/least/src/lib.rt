@@ -1,8 +1,9 @@
 // A place settled from rows, without a sheet: from what each event gives and takes there, and what is before what, comes a tokenflow with
 // the least lack. So another place, which no sheet has, can be settled by the same function.
+#![tactic(auto)]
+
 ghost use Rattle.std.specs.Prelude.{◌≤◌, ◌≡◌};
 ghost use Rattle.finite.specs.Sum.{sum_of};
-ghost use Rattle.ids.specs.Lent.{was, is};
 ghost use Rattle.ids.specs.Limits.{most_events};
 ghost use Rattle.least.specs.PlaceRows.{RowsFor, Small, SomePlace};
 ghost use Rattle.least.specs.Settled.{Settles};
@@ -16,7 +17,7 @@ use settle::settle;
 fn total(row: &[u32; EVENTS], n: usize) -> u32
     requires n_le_most_events { n ≤ most_events }
     requires small { Small row.now n }
-    ensures { result ≡ sum_of (was row) n }
+    ensures { result ≡ sum_of row.now n }
 {
     let mut sum: u32 = 0;
     for i in 0..n {
@@ -39,9 +40,9 @@ pub fn settle_rows(
     enough: u32,
     n: usize,
 ) -> u32
-    requires rows_for { RowsFor n amount fed }
-    requires some_place { SomePlace n pred free share }
-    ensures { Settles n pred amount fed free share givers enough result }
+    requires rows_for { RowsFor n amount.old fed.old }
+    requires some_place { SomePlace n pred.now free.old share.old }
+    ensures { Settles n pred.now amount.new fed.new free.old free.new share.old share.new givers.new enough result }
 {
     let mut sources = [4294967295u32; WORDS];
     put_words(fed, n * WORDS, 0);

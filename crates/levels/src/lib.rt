@@ -1,5 +1,7 @@
 // Levels of a search, and rows of marks by level: in `sets`, row L marks givers of level L with tokens free, and row 256 + L givers met at
 // level L and not yet visited. All of it only says where to look, so contracts speak of bounds alone.
+#![tactic(auto)]
+
 ghost use Rattle.std.specs.Prelude.{◌<◌, ◌≤◌};
 ghost use Rattle.ids.specs.Limits.{most_events};
 

@@ -1,7 +1,8 @@
 // The lines of a listing that tell of the whole plan or of a refusal, each written into a row of bytes. A call returns where its text ends
 // and leaves the rest of the row.
+#![tactic(auto)]
+
 ghost use Rattle.std.specs.Prelude.{◌+◌, ◌≤◌, length};
-ghost use Rattle.ids.specs.Lent.{was, is};
 ghost use Rattle.text.specs.Put.{Put};
 ghost use Rattle.lines.specs.Room.{plan_room, totals_room, refused_room};
 ghost use Rattle.lines.specs.Listing.{plan_line, totals_line, refused_line};
@@ -28,7 +29,7 @@ pub const LISTING_ROOM: usize = PLAN_ROOM + PLACES_ROOM + TOTALS_ROOM + FIRST_RO
 
 pub fn put_plan(row: &mut [u8], at: usize, events: u32, pairs: u32, free: u32) -> usize
     requires { at + plan_room ≤ length row.old }
-    ensures { Put (was row) (is row) at (plan_line events pairs free) result × (result ≤ at + plan_room) }
+    ensures { Put row.old row.new at (plan_line events pairs free) result × (result ≤ at + plan_room) }
 {
     let a = put_field(row, at, b"plan events ", events);
     let b = put_field(row, a, b" pairs ", pairs);
@@ -38,7 +39,7 @@ pub fn put_plan(row: &mut [u8], at: usize, events: u32, pairs: u32, free: u32) -
 
 pub fn put_totals(row: &mut [u8], at: usize, short: u32, total: u32) -> usize
     requires { at + totals_room ≤ length row.old }
-    ensures { Put (was row) (is row) at (totals_line short total) result × (result ≤ at + totals_room) }
+    ensures { Put row.old row.new at (totals_line short total) result × (result ≤ at + totals_room) }
 {
     let a = put_field(row, at, b"short ", short);
     let b = put_field(row, a, b" total ", total);
@@ -47,7 +48,7 @@ pub fn put_totals(row: &mut [u8], at: usize, short: u32, total: u32) -> usize
 
 pub fn put_refused(row: &mut [u8], at: usize, fault: u32) -> usize
     requires { at + refused_room ≤ length row.old }
-    ensures { Put (was row) (is row) at (refused_line fault) result }
+    ensures { Put row.old row.new at (refused_line fault) result }
 {
     let a = put_field(row, at, b"refused ", fault);
     put_word(row, a, b"\n")

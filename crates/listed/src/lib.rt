@@ -1,7 +1,8 @@
 // The listing of a sheet, written into a lent row of bytes. The sheet is examined once, and the rows of its order are handed on.
+#![tactic(auto)]
+
 ghost use Rattle.std.specs.Prelude.{◌≤◌, ◌≡◌, length};
 ghost use Rattle.calls.specs.Length.{says};
-ghost use Rattle.ids.specs.Lent.{was, is};
 ghost use Rattle.lines.specs.Listing.{listing_of};
 ghost use Rattle.lines.specs.Room.{listing_room};
 ghost use Rattle.text.specs.Put.{Put};
@@ -19,7 +20,7 @@ use text::put_word;
 // The listing of any bytes, in a row that has room for the longest.
 fn put_listing(s: &[u8], row: &mut [u8]) -> usize
     requires { listing_room ≤ length row.old }
-    ensures { Put (was row) (is row) 0 (listing_of (was s)) result }
+    ensures { Put row.old row.new 0 (listing_of s.now) result }
 {
     let mut succ = [0u32; ROWS];
     let mut pred = [0u32; ROWS];
@@ -37,8 +38,8 @@ fn put_listing(s: &[u8], row: &mut [u8]) -> usize
 
 // Writes the listing of any bytes into a lent row and tells its length. A row that is too short is left as it is.
 pub fn write_listing(s: &[u8], row: &mut [u8]) -> Written
-    ensures result_value { says result ≡ list_says (was s) (was row) }
-    ensures row_value { is row ≡ row_after (was s) (was row) }
+    ensures result_value { says result ≡ list_says s.now row.old }
+    ensures row_value { row.new ≡ row_after s.now row.old }
 {
     let mut text = [0u8; LISTING_ROOM];
     let n = put_listing(s, &mut text);

@@ -3,6 +3,8 @@
 //
 // A program has no exit status: where the input can't be read nothing is printed, and standard error says why; so it does where the
 // listing can't be written.
+#![tactic(auto)]
+
 use calls::Written;
 use layout::LONGEST;
 use lines::LISTING_ROOM;

@@ -1,5 +1,7 @@
 // The items of a sheet, read from its bytes by place, transition and event numbers that cannot be mixed up. An item stands in its body after
 // those with lower numbers; the sheet's layout says where the body starts. The layout has no fault.
+#![tactic(auto)]
+
 ghost use Rattle.std.specs.Prelude.{◌+◌, ◌*◌, ◌<◌, ◌≤◌, ◌≡◌};
 ghost use Rattle.ids.specs.Limits.{most_places, most_transitions};
 ghost use Rattle.sheet.specs.Items.{opening_at, takes_at, gives_at, label_at, earlier_at, later_at};

@@ -1,7 +1,8 @@
 // Rows of marks, one for each event, in words of 32 bits: is it set, set it, remove it, join two rows, have two rows a mark in common.
 // The definitions are in specs/; a caller needs `marked` and what these contracts say of it.
+#![tactic(auto)]
+
 ghost use Rattle.std.specs.Prelude.{◌<◌, ◌≡◌};
-ghost use Rattle.ids.specs.Lent.{was, is};
 ghost use Rattle.ids.specs.Limits.{most_events};
 ghost use Rattle.marks.specs.Marks.{marked, meeting, HasRow, MarkAdded, MarkRemoved, RowJoined};
 
@@ -13,7 +14,7 @@ pub const BITS: usize = 32;
 pub fn is_marked(rows: &[u32], i: usize, j: usize) -> bool
     requires has_row { HasRow rows.now i }
     requires j_lt_most_events { j < most_events }
-    ensures { result ≡ marked (was rows) i j }
+    ensures { result ≡ marked rows.now i j }
 {
     (rows[i * WORDS + j / BITS] >> (j % BITS)) % 2 == 1
 }
@@ -21,7 +22,7 @@ pub fn is_marked(rows: &[u32], i: usize, j: usize) -> bool
 pub fn mark(rows: &mut [u32], i: usize, j: usize)
     requires has_row { HasRow rows.old i }
     requires j_lt_most_events { j < most_events }
-    ensures { MarkAdded (was rows) (is rows) i j }
+    ensures { MarkAdded rows.old rows.new i j }
 {
     rows[i * WORDS + j / BITS] |= 1u32 << (j % BITS);
 }
@@ -29,7 +30,7 @@ pub fn mark(rows: &mut [u32], i: usize, j: usize)
 pub fn unmark(rows: &mut [u32], i: usize, j: usize)
     requires has_row { HasRow rows.old i }
     requires j_lt_most_events { j < most_events }
-    ensures { MarkRemoved (was rows) (is rows) i j }
+    ensures { MarkRemoved rows.old rows.new i j }
 {
     rows[i * WORDS + j / BITS] &= !(1u32 << (j % BITS));
 }
@@ -38,7 +39,7 @@ pub fn unmark(rows: &mut [u32], i: usize, j: usize)
 pub fn join(rows: &mut [u32], from: usize, into: usize)
     requires has_row { HasRow rows.old from }
     requires has_row_2 { HasRow rows.old into }
-    ensures { RowJoined (was rows) (is rows) from into }
+    ensures { RowJoined rows.old rows.new from into }
 {
     for k in 0..WORDS {
         rows[into * WORDS + k] |= rows[from * WORDS + k];
@@ -49,7 +50,7 @@ pub fn join(rows: &mut [u32], from: usize, into: usize)
 pub fn meets(a: &[u32], i: usize, b: &[u32], j: usize) -> bool
     requires has_row { HasRow a.now i }
     requires has_row_2 { HasRow b.now j }
-    ensures { result ≡ meeting (was a) i (was b) j }
+    ensures { result ≡ meeting a.now i b.now j }
 {
     let mut both: u32 = 0;
     for k in 0..WORDS {

@@ -2,6 +2,8 @@
 // than the longest sheet has is read, which is enough to fault a longer one rightly.
 //
 // A program has no exit status: a sheet that is refused has nothing on standard output, and one line on standard error that says so.
+#![tactic(auto)]
+
 mod words;
 
 ghost use Rattle.std.specs.Prelude.{◌<◌};

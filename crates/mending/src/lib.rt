@@ -1,9 +1,10 @@
 // Mending a sheet: the clean sheet and the reason of each given pair, in lent rows. The pairs are looked through in rows of the call's own, so that no
 // lent row is written before every fault is looked for.
+#![tactic(auto)]
+
 ghost use Rattle.std.specs.Prelude.{◌≤◌, ◌≡◌, length};
 ghost use Rattle.calls.specs.Length.{says};
 ghost use Rattle.calls.specs.Refusal.{FaultTold};
-ghost use Rattle.ids.specs.Lent.{was, is};
 ghost use Rattle.ids.specs.Limits.{most_pairs};
 ghost use Rattle.kept_pairs.specs.PairsKnown.{PairsKnown};
 ghost use Rattle.mending.specs.Mended.{sheet_fault, mend_says, clean_after, reasons_after};
@@ -35,8 +36,8 @@ fn examine_sheet(
     to: &mut [u8; PAIRS],
 ) -> PairsExamined
     requires { most_pairs ≤ length reasons.old }
-    ensures fault_told { FaultTold (was s) (sheet_fault (was s)) result.examined }
-    ensures pairs_known { (sheet_fault (was s)).number ≡ 0 → PairsKnown (was s) (was reasons) (is reasons) (is from) (is to) result.kept }
+    ensures fault_told { FaultTold s.now (sheet_fault s.now) result.examined }
+    ensures pairs_known { (sheet_fault s.now).number ≡ 0 → PairsKnown s.now reasons.old reasons.new from.new to.new result.kept }
 {
     let misplaced = layout_fault(s);
     if misplaced.number != 0 {
@@ -53,9 +54,9 @@ fn examine_sheet(
 // Writes the clean sheet of any bytes into one lent row, the reason of each given pair into the other, and tells the clean sheet's length. A refused
 // call changes neither.
 pub fn mend(s: &[u8], clean: &mut [u8], reasons: &mut [u8]) -> Written
-    ensures result_value { says result ≡ mend_says (was s) (was clean) (was reasons) }
-    ensures clean_value { is clean ≡ clean_after (was s) (was clean) (was reasons) }
-    ensures reasons_value { is reasons ≡ reasons_after (was s) (was clean) (was reasons) }
+    ensures result_value { says result ≡ mend_says s.now clean.old reasons.old }
+    ensures clean_value { clean.new ≡ clean_after s.now clean.old reasons.old }
+    ensures reasons_value { reasons.new ≡ reasons_after s.now clean.old reasons.old }
 {
     let mut given = [0u8; PAIRS];
     let mut from = [0u8; PAIRS];

@@ -1,10 +1,11 @@
 // Faults 10 and 11, and the order of a sheet's plan in rows of marks. The faults of the layout and 8 are absent.
+#![tactic(auto)]
+
 ghost use Rattle.std.specs.Prelude.{◌<◌, false, ◌≡◌, T, length};
 ghost use Rattle.std.proofs.Math.Option.{none};
 ghost use Rattle.closure.specs.Carried.{Within};
 ghost use Rattle.closure.specs.PlanRows.{Predecessors};
 ghost use Rattle.finite.specs.Queue.{Stored};
-ghost use Rattle.ids.specs.Lent.{was, is};
 ghost use Rattle.ids.specs.Limits.{most_events};
 ghost use Rattle.sheet.specs.Table.{pairs_of};
 ghost use Rattle.sheet.specs.Items.{plan_of};
@@ -33,7 +34,7 @@ pub struct Wanted {
 fn put_pair(i: usize, a: Event, b: Event, from: &mut [u8], to: &mut [u8])
     requires a_lt_most_events { (a.0 < most_events) × (b.0 < most_events) }
     requires i_in_bounds { (i < length from.old) × (i < length to.old) }
-    ensures { Stored (was from) (is from) i a.0 × Stored (was to) (is to) i b.0 }
+    ensures { Stored from.old from.new i a.0 × Stored to.old to.new i b.0 }
 {
     from[i] = a.0 as u8;
     to[i] = b.0 as u8;
@@ -52,7 +53,7 @@ pub fn mark_pairs(
     requires s_value { no_event s.now ≡ none }
     requires blank { Blank succ.old }
     ensures value { result ≡ tell 10 (repeated s.now) }
-    ensures pairs_held { result.number ≡ 0 → PairsHeld (plan_of (was s)) (pairs_of (was s)) (is succ) (is from) (is to) }
+    ensures pairs_held { result.number ≡ 0 → PairsHeld (plan_of s.now) (pairs_of s.now) succ.new from.new to.new }
 {
     for i in 0..l.pairs {
         let a = earlier(s, l, i);
@@ -77,8 +78,8 @@ fn arrange(
 ) -> bool
     requires plan_in_rows { PlanInRows events pairs from.now to.now }
     requires within { Within (plan_by events pairs from.now to.now) rows.old }
-    ensures value { result ≡ has_cycle (plan_by events pairs (was from) (was to)) }
-    ensures predecessors { result ≡ false → T wanted → Predecessors (plan_by events pairs (was from) (was to)) (is rows) }
+    ensures value { result ≡ has_cycle (plan_by events pairs from.now to.now) }
+    ensures predecessors { result ≡ false → T wanted → Predecessors (plan_by events pairs from.now to.now) rows.new }
 {
     let mut first = [0u16; EVENTS];
     let mut next = [0u16; PAIRS];
@@ -106,7 +107,7 @@ pub fn order_fault(
     requires s_value { no_event s.now ≡ none }
     requires blank { Blank succ.old × Blank pred.old }
     ensures value { result ≡ first_fault order_faults s.now }
-    ensures wanted_rows { result.number ≡ 0 → WantedRows wanted (plan_of (was s)) (is succ) (is pred) }
+    ensures wanted_rows { result.number ≡ 0 → WantedRows wanted (plan_of s.now) succ.new pred.new }
 {
     let mut from = [0u8; PAIRS];
     let mut to = [0u8; PAIRS];

@@ -2,7 +2,6 @@
 use Rattle.std.specs.Prelude.{ℕ, ◌-◌, ◌≤◌, ◌<◌, List, ◌≡◌, ℤ}
 use Rattle.std.proofs.Common.{arith, sym, ap₂, ◌∙◌}
 use Rattle.std.proofs.Math.IntN.{sub_ℕ}
-use Rattle.ids.specs.Lent.{Lent, was, is}
 use Rattle.ids.specs.declared.Place.{Place}
 use Rattle.plan.specs.Net.{Net, Plan}
 use Rattle.plan.specs.Prefix.{missing, smallest}
@@ -28,10 +27,10 @@ JudgedIn s p pred amount fed share givers m =
     (free : List ℕ) × Judged (net_of s) (plan_of s) p pred (rows amount fed free share) givers m
 
 -- So it is, and its two counts are known: what is missing and what is to spare.
-abbrev pub CountedHere : Lent → Place → Lent → Lent → Lent → Lent → Lent → PlaceCounts → Type 0
+abbrev pub CountedHere : List ℕ → Place → List ℕ → List ℕ → List ℕ → List ℕ → List ℕ → PlaceCounts → Type 0
 CountedHere s p pred amount fed share givers counts =
-    (counts.spare ≡ spare_at (was s) p.0)
-    × JudgedIn (was s) p.0 (was pred) (is amount) (is fed) (is share) (is givers) counts.missing
+    (counts.spare ≡ spare_at s p.0)
+    × JudgedIn s p.0 pred amount fed share givers counts.missing
 
 module _ (s : List ℕ) (p enough : ℕ) (pred amount fed share givers : List ℕ) (lacks : ℕ) (settled : SettledIn s p enough pred amount fed share givers lacks) where
   -- A place is judged if what was enough doesn't pass the opening count.

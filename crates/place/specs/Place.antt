@@ -3,7 +3,6 @@ use Rattle.std.specs.Prelude.{ℕ, ◌<◌, List, ◌≡◌, ℤ}
 use Rattle.std.proofs.Common.{arith}
 use Rattle.closure.specs.PlanRows.{Predecessors}
 use Rattle.finite.specs.Filled.{Filled}
-use Rattle.ids.specs.Lent.{Lent, was, is}
 use Rattle.ids.specs.declared.Place.{Place}
 use Rattle.plan.specs.Net.{taken_by, given_by}
 use Rattle.plan.specs.Prefix.{missing, least_opening, spare}
@@ -36,9 +35,9 @@ abbrev pub SettledIn : List ℕ → ℕ → ℕ → List ℕ → List ℕ → Li
 SettledIn s p enough pred amount fed share givers lacks =
     (free : List ℕ) × PlaceSettled (net_of s) (plan_of s) p enough pred (rows amount fed free share) givers lacks
 
-abbrev pub SettledHere : Lent → Place → ℕ → Lent → Lent → Lent → Lent → Lent → ℕ → Type 0
+abbrev pub SettledHere : List ℕ → Place → ℕ → List ℕ → List ℕ → List ℕ → List ℕ → List ℕ → ℕ → Type 0
 SettledHere s p enough pred amount fed share givers lacks =
-    SettledIn (was s) p.0 enough (was pred) (is amount) (is fed) (is share) (is givers) lacks
+    SettledIn s p.0 enough pred amount fed share givers lacks
 
 -- Rows filled with a sheet's gives and takes at a place are those of that place.
 pub sheet_rows : (s : List ℕ) → Faultless s → (p n : ℕ) → p < places_of s → n ≡ events_of s → (pred free₀ share₀ free share : List ℕ) → Predecessors (plan_of s) pred

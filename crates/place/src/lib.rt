@@ -1,9 +1,10 @@
 // One place of a sheet's plan, settled over all orders, and its counts.
+#![tactic(auto)]
+
 ghost use Rattle.std.specs.Prelude.{◌-◌, ◌<◌, ◌≡◌, length, set};
 ghost use Rattle.std.proofs.Math.IntN.{sub_ℕ};
 ghost use Rattle.closure.specs.PlanRows.{Predecessors};
 ghost use Rattle.finite.specs.Filled.{Filled};
-ghost use Rattle.ids.specs.Lent.{was, is};
 ghost use Rattle.layout.specs.Layout.{LayoutOf};
 ghost use Rattle.least.specs.PlaceRows.{RowsFor};
 ghost use Rattle.sheet.specs.Faultless.{Faultless};
@@ -23,8 +24,8 @@ fn fill_event(s: &[u8], l: Layout, p: Place, v: Event, free: &mut [u32], share: 
     requires layout_of { LayoutOf s.now l }
     requires p_lt_places { (p.0 < l.places) × (v.0 < l.events) }
     requires v_in_bounds { (v.0 < length free.old) × (v.0 < length share.old) }
-    ensures free_value { is free ≡ set (was free) v.0 (gives_in (was s) p.0 v.0) }
-    ensures share_value { is share ≡ set (was share) v.0 (takes_in (was s) p.0 v.0) }
+    ensures free_value { free.new ≡ set free.old v.0 (gives_in s.now p.0 v.0) }
+    ensures share_value { share.new ≡ set share.old v.0 (takes_in s.now p.0 v.0) }
 {
     let t = label(s, l, v);
     let at = v.0;
@@ -37,8 +38,8 @@ fn fill(s: &[u8], l: Layout, p: Place, free: &mut [u32; EVENTS], share: &mut [u3
     requires faultless { Faultless s.now }
     requires layout_of { LayoutOf s.now l }
     requires p_lt_places { p.0 < l.places }
-    ensures filled { Filled (gives_in (was s) p.0) l.events (was free) (is free) }
-    ensures filled_2 { Filled (takes_in (was s) p.0) l.events (was share) (is share) }
+    ensures filled { Filled (gives_in s.now p.0) l.events free.old free.new }
+    ensures filled_2 { Filled (takes_in s.now p.0) l.events share.old share.new }
 {
     for v in 0..l.events {
         fill_event(s, l, p, Event(v), free, share);
@@ -64,8 +65,8 @@ pub fn settle_place(
     requires layout_of { LayoutOf s.now l }
     requires p_lt_places { p.0 < l.places }
     requires predecessors { Predecessors (plan_of s.now) pred.now }
-    requires rows_for { RowsFor l.events amount fed }
-    ensures { SettledHere s p enough pred amount fed share givers result }
+    requires rows_for { RowsFor l.events amount.old fed.old }
+    ensures { SettledHere s.now p enough pred.now amount.new fed.new share.new givers.new result }
 {
     fill(s, l, p, free, share);
     let n = l.events;
@@ -110,8 +111,8 @@ pub fn place_counts(
     requires layout_of { LayoutOf s.now l }
     requires p_lt_places { p.0 < l.places }
     requires predecessors { Predecessors (plan_of s.now) pred.now }
-    requires rows_for { RowsFor l.events amount fed }
-    ensures { CountedHere s p pred amount fed share givers result }
+    requires rows_for { RowsFor l.events amount.old fed.old }
+    ensures { CountedHere s.now p pred.now amount.new fed.new share.new givers.new result }
 {
     let mut order = [0usize; EVENTS];
     event_order(pred, l.events, &mut order);

@@ -1,8 +1,9 @@
 // The count of each place of a sheet without fault, in a row: the least opening count, or what is missing, and the done set of the first short place.
+#![tactic(auto)]
+
 ghost use Rattle.std.specs.Prelude.{◌+◌, ◌-◌, ◌<◌, ◌≤◌, cond, ◌≡◌, length, get_or, set};
 ghost use Rattle.closure.specs.PlanRows.{Predecessors};
 ghost use Rattle.finite.specs.Filled.{Filled};
-ghost use Rattle.ids.specs.Lent.{was, is};
 ghost use Rattle.layout.specs.Layout.{LayoutOf};
 ghost use Rattle.least.specs.PlaceRows.{RowsFor, UnfedFrom};
 ghost use Rattle.sheet.specs.Faultless.{Faultless};
@@ -50,11 +51,11 @@ fn count_place(
     requires layout_of { LayoutOf s.now l }
     requires p_lt_places { (p.0 < l.places) × (p.0 < length row.old) }
     requires predecessors { Predecessors (plan_of s.now) pred.now }
-    requires rows_for { RowsFor l.events amount fed }
+    requires rows_for { RowsFor l.events amount.old fed.old }
     requires first_to { FirstTo s.now p.0 first }
-    ensures row_value { is row ≡ set (was row) p.0 (asked_at least (was s) p.0) }
-    ensures first_to_2 { FirstTo (was s) (p.0 + 1) result }
-    ensures unfed_from { UnfedFrom l.events (is fed) }
+    ensures row_value { row.new ≡ set row.old p.0 (asked_at least s.now p.0) }
+    ensures first_to_2 { FirstTo s.now (p.0 + 1) result }
+    ensures unfed_from { UnfedFrom l.events fed.new }
 {
     let mut done = [0u32; WORDS];
     let opens = opening(s, l, p);
@@ -84,9 +85,9 @@ pub fn count_places(
     share: &mut [u32; EVENTS],
     row: &mut [u32],
 ) -> First
-    requires countable { Countable s l pred row }
-    requires rows_for { RowsFor l.events amount fed }
-    ensures { Counted s l least row result }
+    requires countable { Countable s.now l pred.now row.old }
+    requires rows_for { RowsFor l.events amount.old fed.old }
+    ensures { Counted s.now l least row.old row.new result }
 {
     let none = [0u32; WORDS];
     let mut first = First {
@@ -117,7 +118,7 @@ pub fn above_openings(s: &[u8], l: Layout, least: &[u32; PLACES], row: &mut [u32
     requires faultless { Faultless s.now }
     requires layout_of { LayoutOf s.now l }
     requires places_in_bounds { l.places ≤ length row.old }
-    ensures { Filled (λ p. get_or (was least) p 0 - opening_at (was s) p) l.places (was row) (is row) }
+    ensures { Filled (λ p. get_or least.now p 0 - opening_at s.now p) l.places row.old row.new }
 {
     let places = l.places;
     for p in 0..places {

@@ -1,6 +1,7 @@
 // The place judgement: one place of a sheet's plan settled over all orders, with what shows it handed over in the lent rows.
+#![tactic(auto)]
+
 ghost use Rattle.std.specs.Prelude.{◌≡◌};
-ghost use Rattle.ids.specs.Lent.{was, is};
 ghost use Rattle.place_judgement.specs.Judgement.{says, judgement_says, Handed, marks_after};
 
 use calls::{with_place, with_row};
@@ -21,9 +22,9 @@ pub enum Judgement {
 // holds a valid flow and the marks are 0. Short: its numbers are 0, and the marks are 1 for the smallest done set at which most tokens lack.
 // A fault changes neither row.
 pub fn judge_place(s: &[u8], p: Place, flow: &mut [u32], marks: &mut [u8]) -> Judgement
-    ensures result_value { says result ≡ judgement_says (was s) p.0 (was flow) (was marks) }
-    ensures marks_value { is marks ≡ marks_after (was s) p.0 (was flow) (was marks) }
-    ensures handed { Handed (was s) p.0 (was flow) (was marks) (is flow) }
+    ensures result_value { says result ≡ judgement_says s.now p.0 flow.old marks.old }
+    ensures marks_value { marks.new ≡ marks_after s.now p.0 flow.old marks.old }
+    ensures handed { Handed s.now p.0 flow.old marks.old flow.new }
 {
     let mut succ = [0u32; ROWS];
     let mut pred = [0u32; ROWS];

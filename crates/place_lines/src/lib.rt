@@ -1,7 +1,8 @@
 // The lines of a listing that tell of one place each. A call returns where its text ends and leaves the rest of the row.
+#![tactic(auto)]
+
 ghost use Rattle.std.specs.Prelude.{◌+◌, ◌<◌, ◌≤◌, ◌≡◌, length};
 ghost use Rattle.std.proofs.Math.IntN.{sub_ℕ};
-ghost use Rattle.ids.specs.Lent.{was, is};
 ghost use Rattle.ids.specs.Limits.{most_places};
 ghost use Rattle.plan.specs.Prefix.{least_opening};
 ghost use Rattle.sheet.specs.Table.{places_of};
@@ -28,7 +29,7 @@ fn put_counts(
     least: u32,
 ) -> usize
     requires { (p.0 < most_places) × (at + place_room ≤ length row.old) }
-    ensures { Put (was row) (is row) at (place_line p.0 opening (sub_ℕ gained lost) (sub_ℕ opening least)) result × (result ≤ at + place_room) }
+    ensures { Put row.old row.new at (place_line p.0 opening (sub_ℕ gained lost) (sub_ℕ opening least)) result × (result ≤ at + place_room) }
 {
     let a = put_field(row, at, b"place ", p.0 as u32);
     let b = put_field(row, a, b" open ", opening);
@@ -44,7 +45,7 @@ fn put_place(s: &[u8], p: Place, least: u32, row: &mut [u8], at: usize) -> usize
     requires faultless { Faultless s.now }
     requires p_bound { (p.0 < places_of s.now) × (least ≡ least_opening (net_of s.now) (plan_of s.now) p.0) }
     requires place_room_in_bounds { at + place_room ≤ length row.old }
-    ensures { Put (was row) (is row) at (line_of (net_of (was s)) (plan_of (was s)) p.0) result × (result ≤ at + place_room) }
+    ensures { Put row.old row.new at (line_of (net_of s.now) (plan_of s.now) p.0) result × (result ≤ at + place_room) }
 {
     let opening = opening_of(s, p);
     let plus = gained_of(s, p);
@@ -63,7 +64,7 @@ pub fn put_places(
     requires faultless { Faultless s.now }
     requires places_value { (places ≡ places_of s.now) × LeastRow s.now least.now }
     requires places_room_in_bounds { at + places_room ≤ length row.old }
-    ensures { Put (was row) (is row) at (each (places_of (was s)) (line_of (net_of (was s)) (plan_of (was s)))) result × (result ≤ at + places_room) }
+    ensures { Put row.old row.new at (each (places_of s.now) (line_of (net_of s.now) (plan_of s.now))) result × (result ≤ at + places_room) }
 {
     let mut end = at;
     for p in 0..places {

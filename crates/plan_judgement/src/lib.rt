@@ -1,6 +1,7 @@
 // The plan judgement: whether a sheet's plan runs at every place of its net, and the missing count of each in a lent row.
+#![tactic(auto)]
+
 ghost use Rattle.std.specs.Prelude.{◌≡◌};
-ghost use Rattle.ids.specs.Lent.{was, is};
 ghost use Rattle.plan_judgement.specs.Judgement.{says, plan_says, row_of};
 
 use calls::with_row;
@@ -19,8 +20,8 @@ pub enum Answer {
 
 // The plan judgement. The order is worked out once for all places, and each is settled no further than what is missing there asks for.
 pub fn judge_plan(s: &[u8], row: &mut [u32]) -> Answer
-    ensures result_value { says result ≡ plan_says (was s) (was row) }
-    ensures row_value { is row ≡ row_of (was s) (was row) }
+    ensures result_value { says result ≡ plan_says s.now row.old }
+    ensures row_value { row.new ≡ row_of s.now row.old }
 {
     let mut succ = [0u32; ROWS];
     let mut pred = [0u32; ROWS];

@@ -1,8 +1,9 @@
 // The lines of a listing of a sheet without fault, put into a row that has room for them. Each place is settled once: the least opening counts and the
 // done set of the first short place are handed on.
+#![tactic(auto)]
+
 ghost use Rattle.std.specs.Prelude.{◌≤◌, ◌≡◌, length};
 ghost use Rattle.closure.specs.PlanRows.{Predecessors};
-ghost use Rattle.ids.specs.Lent.{was, is};
 ghost use Rattle.layout.specs.Layout.{LayoutOf};
 ghost use Rattle.lines.specs.Listing.{count_lines, lines_of};
 ghost use Rattle.lines.specs.LeastRow.{LeastRow};
@@ -41,7 +42,7 @@ fn put_counts(
     requires short_value { short ≡ short_places (missing_at s.now) (places_of s.now) }
     requires total_value { total ≡ total_missing (missing_at s.now) (places_of s.now) }
     requires listing_room_in_bounds { listing_room ≤ length row.old }
-    ensures { Put (was row) (is row) 0 (count_lines (net_of (was s)) (plan_of (was s))) result × (result ≤ counts_room) }
+    ensures { Put row.old row.new 0 (count_lines (net_of s.now) (plan_of s.now)) result × (result ≤ counts_room) }
 {
     let free = free_count(pred, l.events);
     let a = put_plan(row, 0, l.events as u32, l.pairs as u32, free);
@@ -55,7 +56,7 @@ pub fn put_lines(s: &[u8], l: Layout, pred: &[u32; ROWS], row: &mut [u8]) -> usi
     requires layout_of { LayoutOf s.now l }
     requires predecessors { Predecessors (plan_of s.now) pred.now }
     requires listing_room_in_bounds { listing_room ≤ length row.old }
-    ensures { Put (was row) (is row) 0 (lines_of (net_of (was s)) (plan_of (was s))) result }
+    ensures { Put row.old row.new 0 (lines_of (net_of s.now) (plan_of s.now)) result }
 {
     let mut least = [0u32; PLACES];
     let mut missing = [0u32; PLACES];

@@ -1,5 +1,7 @@
 // Pushes free tokens down the levels of a search: givers of each level feed takers in place of givers one level nearer to the takers
 // that lack tokens, and these draw in the end. Levels only say where to look; whatever they are, every move is a draw or an exchange.
+#![tactic(auto)]
+
 ghost use Rattle.std.specs.Prelude.{◌+◌, ◌<◌, ◌≤◌, T};
 ghost use Rattle.ids.specs.Limits.{most_events};
 ghost use Rattle.marks.specs.Marks.{marked};
@@ -28,11 +30,11 @@ fn pull_by(
     level: usize,
     n: usize,
 )
-    requires holds { Holds n pred amount fed free share }
+    requires holds { Holds n pred.now amount.old fed.old free.old share.old }
     requires order { Order n pred.now }
     requires v_lt_n { (v.0 < n) × (w.0 < n) × T (marked fed.old v.0 w.0) }
     requires level_lt_most_events { level < most_events }
-    ensures { Moves n pred amount fed free share }
+    ensures { Moves n pred.now amount.old amount.new fed.old fed.new free.old free.new share.old share.new }
 {
     let found = last_mark::last_common(pred, w.0, sets, level);
     let Found::At(x) = found else {
@@ -57,10 +59,10 @@ fn pull_once(
     level: usize,
     n: usize,
 ) -> bool
-    requires holds { Holds n pred amount fed free share }
+    requires holds { Holds n pred.now amount.old fed.old free.old share.old }
     requires order { Order n pred.now }
     requires v_lt_most_events { (v.0 < most_events) × (level < most_events) }
-    ensures { Moves n pred amount fed free share }
+    ensures { Moves n pred.now amount.old amount.new fed.old fed.new free.old free.new share.old share.new }
 {
     let found = last_mark::last_common(fed, v.0, within, 0);
     let Found::At(w) = found else {
@@ -95,10 +97,10 @@ fn pull(
     level: usize,
     n: usize,
 )
-    requires holds { Holds n pred amount fed free share }
+    requires holds { Holds n pred.now amount.old fed.old free.old share.old }
     requires order { Order n pred.now }
     requires v_lt_most_events { (v.0 < most_events) × (level < most_events) }
-    ensures { Moves n pred amount fed free share }
+    ensures { Moves n pred.now amount.old amount.new fed.old fed.new free.old free.new share.old share.new }
 {
     for _ in 0..TURNS {
         if !pull_once(pred, sets, within, amount, fed, free, share, v, level, n) {
@@ -119,10 +121,10 @@ fn pull_next(
     lower: usize,
     n: usize,
 ) -> bool
-    requires holds { Holds n pred amount fed free share }
+    requires holds { Holds n pred.now amount.old fed.old free.old share.old }
     requires order { Order n pred.now }
     requires lower_bound { lower + 1 < most_events }
-    ensures { Moves n pred amount fed free share }
+    ensures { Moves n pred.now amount.old amount.new fed.old fed.new free.old free.new share.old share.new }
 {
     let row = EVENTS + lower;
     let none = [0u32; WORDS];
@@ -160,10 +162,10 @@ fn pull_all(
     lower: usize,
     n: usize,
 )
-    requires holds { Holds n pred amount fed free share }
+    requires holds { Holds n pred.now amount.old fed.old free.old share.old }
     requires order { Order n pred.now }
     requires lower_bound { lower + 1 < most_events }
-    ensures { Moves n pred amount fed free share }
+    ensures { Moves n pred.now amount.old amount.new fed.old fed.new free.old free.new share.old share.new }
 {
     for _ in 0..n {
         if !pull_next(pred, sets, within, amount, fed, free, share, lower, n) {
@@ -190,10 +192,10 @@ fn push_level(
     end: usize,
     n: usize,
 ) -> usize
-    requires holds { Holds n pred amount fed free share }
+    requires holds { Holds n pred.now amount.old fed.old free.old share.old }
     requires order { Order n pred.now }
     requires lower_bound { (lower + 1 < most_events) × (end ≤ most_events) }
-    ensures moves { Moves n pred amount fed free share }
+    ensures moves { Moves n pred.now amount.old amount.new fed.old fed.new free.old free.new share.old share.new }
     ensures upper_bound { result ≤ most_events }
 {
     let mut within = [0u32; WORDS];
@@ -216,10 +218,10 @@ fn draw_lowest(
     end: usize,
     n: usize,
 )
-    requires holds { Holds n pred amount fed free share }
+    requires holds { Holds n pred.now amount.old fed.old free.old share.old }
     requires order { Order n pred.now }
     requires end_le_most_events { end ≤ most_events }
-    ensures { Moves n pred amount fed free share }
+    ensures { Moves n pred.now amount.old amount.new fed.old fed.new free.old free.new share.old share.new }
 {
     let mut sources = lowest(sets);
     for at in 0..end {
@@ -241,10 +243,10 @@ fn push_down(
     tail: usize,
     n: usize,
 )
-    requires holds { Holds n pred amount fed free share }
+    requires holds { Holds n pred.now amount.old fed.old free.old share.old }
     requires order { Order n pred.now }
     requires deepest_lt_most_events { (deepest < most_events) × (tail ≤ most_events) }
-    ensures { Moves n pred amount fed free share }
+    ensures { Moves n pred.now amount.old amount.new fed.old fed.new free.old free.new share.old share.new }
 {
     let mut level = deepest;
     let mut end = tail;
@@ -271,10 +273,10 @@ pub fn push(
     tail: usize,
     n: usize,
 )
-    requires holds { Holds n pred amount fed free share }
+    requires holds { Holds n pred.now amount.old fed.old free.old share.old }
     requires order { Order n pred.now }
     requires tail_le_most_events { tail ≤ most_events }
-    ensures { Moves n pred amount fed free share }
+    ensures { Moves n pred.now amount.old amount.new fed.old fed.new free.old free.new share.old share.new }
 {
     let mut levels = [0usize; EVENTS];
     let mut sets = [0u32; SETS];

@@ -1,5 +1,7 @@
 // The reader of a sheet: the lent bytes together with the sheet's layout, which has its four counts. Its fields are private, so that `read` alone
 // makes one for another crate. Each lookup takes the reader apart and leaves the work to the function of the same name on bytes and layout.
+#![tactic(auto)]
+
 ghost use Rattle.std.specs.Prelude.{◌<◌, ◌≤◌, ◌≡◌, length};
 ghost use Rattle.sheet.specs.Table.{table_length, places_of};
 ghost use Rattle.sheet.specs.Items.{opening_at};

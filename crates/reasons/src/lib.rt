@@ -1,8 +1,9 @@
 // The reason of each pair of a sheet: 1 that it names no event, 2 that it is of an event with itself, 3 that it repeats an earlier pair, 0 that it is
 // kept.
+#![tactic(auto)]
+
 ghost use Rattle.std.specs.Prelude.{◌<◌, ◌≤◌, ◌||◌, ◌≡◌, leb, length};
 ghost use Rattle.finite.specs.Filled.{Filled};
-ghost use Rattle.ids.specs.Lent.{was, is};
 ghost use Rattle.ids.specs.Limits.{most_events, most_pairs};
 ghost use Rattle.layout.specs.Layout.{LaidBy};
 ghost use Rattle.sheet.specs.Table.{pairs_of};
@@ -34,7 +35,7 @@ fn names_no_event(events: usize, a: Event, b: Event) -> bool
 // The reason of the pair (a, b) after those that are marked.
 fn reason_of(events: usize, a: Event, b: Event, succ: &[u32; ROWS]) -> u8
     requires { events ≤ most_events }
-    ensures { result ≡ reason_by events (was succ) a.0 b.0 }
+    ensures { result ≡ reason_by events succ.now a.0 b.0 }
 {
     if names_no_event(events, a, b) {
         return NO_EVENT;
@@ -60,8 +61,8 @@ fn keep(
 ) -> usize
     requires a_lt_most_events { ¬ (reason ≡ 1) → (a.0 < most_events) × (b.0 < most_events) }
     requires at_in_bounds { (at < length from.old) × (at < length to.old) }
-    ensures marked_if_kept { MarkedIfKept (was succ) (is succ) a.0 b.0 reason result }
-    ensures put_if_kept { PutIfKept (was from) (is from) at a.0 reason × PutIfKept (was to) (is to) at b.0 reason }
+    ensures marked_if_kept { MarkedIfKept succ.old succ.new a.0 b.0 reason result }
+    ensures put_if_kept { PutIfKept from.old from.new at a.0 reason × PutIfKept to.old to.new at b.0 reason }
 {
     if reason == 0 {
         mark(succ, a.0, b.0);
@@ -83,8 +84,8 @@ pub fn give_reasons(
 ) -> usize
     requires laid_by { LaidBy s.now l }
     requires most_pairs_in_bounds { most_pairs ≤ length reasons.old }
-    ensures filled { Filled (reason_at (was s)) (pairs_of (was s)) (was reasons) (is reasons) × (result ≡ kept_count (was s)) }
-    ensures holds_kept { HoldsKept (was s) (pairs_of (was s)) (is from) (is to) }
+    ensures filled { Filled (reason_at s.now) (pairs_of s.now) reasons.old reasons.new × (result ≡ kept_count s.now) }
+    ensures holds_kept { HoldsKept s.now (pairs_of s.now) from.new to.new }
 {
     let mut succ = [0u32; ROWS];
     let mut kept = 0;

@@ -1,12 +1,13 @@
 // The open calls for C: pointers and lengths for the bytes and rows that are lent, and the answer told in numbers.
+#![tactic(auto)]
+
 ghost use Rattle.std.specs.Prelude.{◌≡◌};
 ghost use Rattle.flowcheck.specs.Checked.{check_says};
-ghost use Rattle.ids.specs.Lent.{was, is};
 ghost use Rattle.listed.specs.Listed.{list_says, row_after};
 ghost use Rattle.mending.specs.Mended.{mend_says, clean_after, reasons_after};
 ghost use Rattle.place_judgement.specs.Judgement.{judgement_says, Handed, marks_after};
 ghost use Rattle.plan_judgement.specs.Judgement.{plan_says, row_of};
-ghost use Rattle.answers.specs.ForC.{at_return, FaultTold, PlanTold, PlaceTold, CheckTold, ListingTold, MendTold};
+ghost use Rattle.answers.specs.ForC.{FaultTold, PlanTold, PlaceTold, CheckTold, ListingTold, MendTold};
 ghost use Rattle.till.specs.Till.{till_answer};
 ghost use Rattle.sheet.specs.Faults.{fault_of};
 
@@ -23,7 +24,7 @@ use till::answer_number;
 // The till server's call. The row that it lends has a number for each place that a sheet may have, so fault 13 doesn't arise.
 #[unsafe(no_mangle)]
 pub extern "C" fn reedanchor_judge(sheet: &[u8]) -> u32
-    ensures { result ≡ till_answer (was sheet) }
+    ensures { result ≡ till_answer sheet.now }
 {
     let mut row = [0u32; PLACES];
     let a = judge_plan(sheet, &mut row);
@@ -33,7 +34,7 @@ pub extern "C" fn reedanchor_judge(sheet: &[u8]) -> u32
 // The fault of a sheet.
 #[unsafe(no_mangle)]
 pub extern "C" fn reedanchor_fault(sheet: &[u8], item: &mut u32) -> u32
-    ensures { FaultTold (fault_of (was sheet)) result (at_return item) }
+    ensures { FaultTold (fault_of sheet.now) result item.new }
 {
     let f = fault_of(sheet);
     tell_fault(f, item)
@@ -49,8 +50,8 @@ pub extern "C" fn reedanchor_plan(
     short: &mut u32,
     first: &mut u32,
 ) -> u32
-    ensures plan_told { PlanTold (plan_says (was sheet) (was row)) result (at_return item) (at_return total) (at_return short) (at_return first) }
-    ensures row_value { is row ≡ row_of (was sheet) (was row) }
+    ensures plan_told { PlanTold (plan_says sheet.now row.old) result item.new total.new short.new first.new }
+    ensures row_value { row.new ≡ row_of sheet.now row.old }
 {
     let a = judge_plan(sheet, row);
     tell_plan(a, item, total, short, first)
@@ -66,9 +67,9 @@ pub extern "C" fn reedanchor_place(
     item: &mut u32,
     spare: &mut i32,
 ) -> u32
-    ensures place_told { PlaceTold (judgement_says (was sheet) place.0 (was flow) (was marks)) result (at_return item) (at_return spare) }
-    ensures marks_value { is marks ≡ marks_after (was sheet) place.0 (was flow) (was marks) }
-    ensures handed { Handed (was sheet) place.0 (was flow) (was marks) (is flow) }
+    ensures place_told { PlaceTold (judgement_says sheet.now place.0 flow.old marks.old) result item.new spare.new }
+    ensures marks_value { marks.new ≡ marks_after sheet.now place.0 flow.old marks.old }
+    ensures handed { Handed sheet.now place.0 flow.old marks.old flow.new }
 {
     let j = judge_place(sheet, place, flow, marks);
     tell_place(j, item, spare)
@@ -83,7 +84,7 @@ pub extern "C" fn reedanchor_check_flow(
     item: &mut u32,
     valid: &mut u32,
 ) -> u32
-    ensures { CheckTold (check_says (was sheet) place.0 (was flow)) result (at_return item) (at_return valid) }
+    ensures { CheckTold (check_says sheet.now place.0 flow.now) result item.new valid.new }
 {
     let c = check_flow(sheet, place, flow);
     tell_check(c, item, valid)
@@ -92,8 +93,8 @@ pub extern "C" fn reedanchor_check_flow(
 // The listing.
 #[unsafe(no_mangle)]
 pub extern "C" fn reedanchor_listing(sheet: &[u8], text: &mut [u8], written: &mut usize) -> u32
-    ensures listing_told { ListingTold (list_says (was sheet) (was text)) result (at_return written) }
-    ensures text_value { is text ≡ row_after (was sheet) (was text) }
+    ensures listing_told { ListingTold (list_says sheet.now text.old) result written.new }
+    ensures text_value { text.new ≡ row_after sheet.now text.old }
 {
     let l = write_listing(sheet, text);
     tell_listing(l, written)
@@ -108,9 +109,9 @@ pub extern "C" fn reedanchor_mend(
     item: &mut u32,
     written: &mut usize,
 ) -> u32
-    ensures mend_told { MendTold (mend_says (was sheet) (was clean) (was reasons)) result (at_return item) (at_return written) }
-    ensures clean_value { is clean ≡ clean_after (was sheet) (was clean) (was reasons) }
-    ensures reasons_value { is reasons ≡ reasons_after (was sheet) (was clean) (was reasons) }
+    ensures mend_told { MendTold (mend_says sheet.now clean.old reasons.old) result item.new written.new }
+    ensures clean_value { clean.new ≡ clean_after sheet.now clean.old reasons.old }
+    ensures reasons_value { reasons.new ≡ reasons_after sheet.now clean.old reasons.old }
 {
     let m = mend(sheet, clean, reasons);
     tell_mend(m, item, written)

@@ -1,7 +1,6 @@
 -- How a search reached each event, for walking back from it to a taker with a share.
 use Rattle.std.specs.Prelude.{ℕ, ◌<◌, List, ◌⊎◌, T, get_or}
 use Rattle.finite.specs.Subset.{Set}
-use Rattle.ids.specs.Lent.{Lent, was, is}
 use Rattle.marks.specs.Marks.{marked}
 use Rattle.search.specs.Row.{In}
 use Rattle.search.specs.Exhausted.{Exhausted}
@@ -20,13 +19,6 @@ pub record Takers : Type 0 where
 abbrev pub takers_of : List ℕ → List ℕ → List ℕ → ℕ → Takers
 takers_of row queue origin tail = record { row = row; queue = queue; origin = origin; tail = tail }
 
--- at entry of a call, and at its exit
-abbrev pub takers_were : Lent → Lent → Lent → ℕ → Takers
-takers_were row queue origin tail = takers_of (was row) (was queue) (was origin) tail
-
-abbrev pub takers_are : Lent → Lent → Lent → ℕ → Takers
-takers_are row queue origin tail = takers_of (is row) (is queue) (is origin) tail
-
 -- The givers met: marked in a row, each with the place in the queue of the taker by way of which it was met.
 pub record Givers : Type 0 where
   pub row : List ℕ
@@ -34,12 +26,6 @@ pub record Givers : Type 0 where
 
 abbrev pub givers_of : List ℕ → List ℕ → Givers
 givers_of row via = record { row = row; via = via }
-
-abbrev pub givers_were : Lent → Lent → Givers
-givers_were row via = givers_of (was row) (was via)
-
-abbrev pub givers_are : Lent → Lent → Givers
-givers_are row via = givers_of (is row) (is via)
 
 -- The taker at place i was fed by its origin, which was met by way of an earlier place.
 pub record FedBy (fed : List ℕ) (t : Takers) (g : Givers) (i : ℕ) : Type 0 where

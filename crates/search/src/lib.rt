@@ -1,12 +1,13 @@
 // A search, breadth first, over takers and givers of tokens: from each taker with a share of the opening count to the givers before it,
 // and from each giver to the takers that it feeds. Sets are rows of marks. The definitions are in specs/.
+#![tactic(auto)]
+
 ghost use Rattle.std.specs.Prelude.{◌≤◌, ◌<◌, length};
-ghost use Rattle.ids.specs.Lent.{was, is};
 ghost use Rattle.finite.specs.Queue.{Stored};
 ghost use Rattle.ids.specs.Limits.{most_events};
 ghost use Rattle.search.specs.Row.{Empty, AllIn};
 ghost use Rattle.search.specs.Exhausted.{Narrow};
-ghost use Rattle.search.specs.Trail.{◌!◌, givers_are, givers_were, takers_are, takers_were};
+ghost use Rattle.search.specs.Trail.{◌!◌, givers_of, takers_of};
 ghost use Rattle.search.specs.Searched.{Listed, Searched};
 ghost use Rattle.search.specs.Steps.{Joined, Seeded, Following, Visiting};
 
@@ -15,7 +16,7 @@ use last_mark::Found;
 
 fn put(list: &mut [usize], at: usize, v: Event)
     requires { at < length list.old }
-    ensures { Stored (was list) (is list) at v.0 }
+    ensures { Stored list.old list.new at v.0 }
 {
     list[at] = v.0;
 }
@@ -23,7 +24,7 @@ fn put(list: &mut [usize], at: usize, v: Event)
 // Notes the place of the queue by way of which the giver `u` is met.
 fn note(via: &mut [usize], u: Event, head: usize)
     requires { u.0 < length via.old }
-    ensures { Stored (was via) (is via) u.0 head }
+    ensures { Stored via.old via.new u.0 head }
 {
     let i = u.0;
     via[i] = head;
@@ -32,7 +33,7 @@ fn note(via: &mut [usize], u: Event, head: usize)
 // Marks a taker, and lists it at the end of the queue.
 fn list(takers: &mut [u32; WORDS], queue: &mut [usize; EVENTS], end: usize, w: Event)
     requires { (end < most_events) × (w.0 < most_events) }
-    ensures { Joined (was takers) (is takers) w.0 (was queue) (is queue) end w.0 }
+    ensures { Joined takers.old takers.new w.0 queue.old queue.new end w.0 }
 {
     marks::mark(takers, 0, w.0);
     put(queue, end, w);
@@ -41,7 +42,7 @@ fn list(takers: &mut [u32; WORDS], queue: &mut [usize; EVENTS], end: usize, w: E
 // Marks a giver, met by way of the place `head` of the queue.
 fn meet(givers: &mut [u32; WORDS], via: &mut [usize; EVENTS], u: Event, head: usize)
     requires { u.0 < most_events }
-    ensures { Joined (was givers) (is givers) u.0 (was via) (is via) u.0 head }
+    ensures { Joined givers.old givers.new u.0 via.old via.new u.0 head }
 {
     marks::mark(givers, 0, u.0);
     note(via, u, head);
@@ -56,7 +57,7 @@ fn seed(
 ) -> usize
     requires n_le_most_events { n ≤ most_events }
     requires empty { Empty takers.old }
-    ensures { Seeded (was share) n (is takers) (is queue) result }
+    ensures { Seeded share.now n takers.new queue.new result }
 {
     let mut tail = 0;
     for w in 0..n {
@@ -79,8 +80,8 @@ fn follow(
 ) -> usize
     requires u_lt_most_events { u.0 < most_events }
     requires listed { Listed takers.old queue.old tail }
-    ensures following { Following (was fed) u.0 (takers_were takers queue origin tail) (takers_are takers queue origin result) }
-    ensures all_in { AllIn (was fed) u.0 (is takers) }
+    ensures following { Following fed.now u.0 (takers_of takers.old queue.old origin.old tail) (takers_of takers.new queue.new origin.new result) }
+    ensures all_in { AllIn fed.now u.0 takers.new }
 {
     let mut end = tail;
     loop {
@@ -107,9 +108,9 @@ fn visit(
 ) -> usize
     requires listed { Listed takers.old queue.old tail }
     requires head_lt_tail { head < tail }
-    ensures visiting { Visiting (was pred) (was fed) (takers_were takers queue origin tail) (givers_were givers via)
-        (takers_are takers queue origin result) (givers_are givers via) }
-    ensures all_in { AllIn (was pred) (was queue ! head) (is givers) }
+    ensures visiting { Visiting pred.now fed.now (takers_of takers.old queue.old origin.old tail) (givers_of givers.old via.old)
+        (takers_of takers.new queue.new origin.new result) (givers_of givers.new via.new) }
+    ensures all_in { AllIn pred.now (queue.old ! head) givers.new }
 {
     let w = Event(queue[head]);
     let mut end = tail;
@@ -137,7 +138,7 @@ pub fn search(
 ) -> usize
     requires n_le_most_events { n ≤ most_events }
     requires narrow { Narrow pred.now fed.now n }
-    ensures { Searched (was pred) (was fed) (was share) n (takers_are takers queue origin result) (givers_are givers via) }
+    ensures { Searched pred.now fed.now share.now n (takers_of takers.new queue.new origin.new result) (givers_of givers.new via.new) }
 {
     *takers = [0u32; WORDS];
     *givers = [0u32; WORDS];

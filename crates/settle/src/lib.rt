@@ -1,12 +1,13 @@
 // Settles a place: searches and moves tokens by turns, until what is lacking is little enough or no giver that a taker could draw on has
 // tokens free.
+#![tactic(auto)]
+
 ghost use Rattle.std.specs.Prelude.{◌<◌, ◌≤◌, ◌≡◌, leb, replicate};
 ghost use Rattle.finite.specs.Sum.{sum_of};
-ghost use Rattle.ids.specs.Lent.{was, is};
 ghost use Rattle.ids.specs.Limits.{most_events};
-ghost use Rattle.tokenflow.specs.Rows.{rows_were, rows_are};
+ghost use Rattle.tokenflow.specs.Rows.{rows};
 ghost use Rattle.drawing.specs.Moves.{Holds, Moves, Order};
-ghost use Rattle.exchange.specs.Walk.{trail_was, TellsGiver};
+ghost use Rattle.exchange.specs.Walk.{trail_rows, TellsGiver};
 ghost use Rattle.settle.specs.Finished.{Advanced, Ended, FreeSaid, HasFree, Rounded};
 
 use exchange::{Giver, walk};
@@ -17,7 +18,7 @@ use search::search;
 // Whether u was met and has tokens free.
 fn has_free(givers: &[u32; WORDS], free: &[u32; EVENTS], u: Event) -> bool
     requires { u.0 < most_events }
-    ensures { FreeSaid (was givers) (was free) u.0 result }
+    ensures { FreeSaid givers.now free.now u.0 result }
 {
     if !marks::is_marked(givers, 0, u.0) {
         return false;
@@ -32,7 +33,7 @@ fn has_free(givers: &[u32; WORDS], free: &[u32; EVENTS], u: Event) -> bool
 // A giver that was met and has tokens free.
 fn find_free(givers: &[u32; WORDS], free: &[u32; EVENTS], n: usize) -> Giver
     requires { n ≤ most_events }
-    ensures { TellsGiver (HasFree (was givers) (was free) n) result }
+    ensures { TellsGiver (HasFree givers.now free.now n) result }
 {
     for u in 0..n {
         if has_free(givers, free, Event(u)) {
@@ -57,12 +58,12 @@ fn advance(
     tail: usize,
     n: usize,
 ) -> bool
-    requires holds { Holds n pred amount fed free share }
+    requires holds { Holds n pred.now amount.old fed.old free.old share.old }
     requires order { Order n pred.now }
     requires tail_le_most_events { tail ≤ most_events }
-    ensures moves { Moves n pred amount fed free share }
-    ensures advanced { Advanced n (was pred) (was givers) (trail_was queue origin via)
-        (rows_were amount fed free share) (rows_are amount fed free share) result }
+    ensures moves { Moves n pred.now amount.old amount.new fed.old fed.new free.old free.new share.old share.new }
+    ensures advanced { Advanced n pred.now givers.now (trail_rows queue.now origin.now via.now)
+        (rows amount.old fed.old free.old share.old) (rows amount.new fed.new free.new share.new) result }
 {
     let found = find_free(givers, free, n);
     let Giver::At(u) = found else {
@@ -75,7 +76,7 @@ fn advance(
 
 // Forgets by way of which place each giver was met, so that a push after the next search looks at those of that search only.
 fn forget(via: &mut [usize; EVENTS])
-    ensures { is via ≡ replicate most_events most_events }
+    ensures { via.new ≡ replicate most_events most_events }
 {
     *via = [EVENTS; EVENTS];
 }
@@ -94,11 +95,11 @@ fn round(
     via: &mut [usize; EVENTS],
     n: usize,
 ) -> bool
-    requires holds { Holds n pred amount fed free share }
+    requires holds { Holds n pred.now amount.old fed.old free.old share.old }
     requires order { Order n pred.now }
-    ensures moves { Moves n pred amount fed free share }
-    ensures rounded { Rounded n (was pred) (rows_were amount fed free share) (rows_are amount fed free share)
-        (is takers) (is givers) result }
+    ensures moves { Moves n pred.now amount.old amount.new fed.old fed.new free.old free.new share.old share.new }
+    ensures rounded { Rounded n pred.now (rows amount.old fed.old free.old share.old) (rows amount.new fed.new free.new share.new)
+        takers.new givers.new result }
 {
     let tail = search(pred, fed, share, n, takers, givers, queue, origin, via);
     advance(
@@ -109,7 +110,7 @@ fn round(
 // Whether the takers lack no more than is enough.
 fn is_covered(share: &[u32; EVENTS], n: usize, enough: u32) -> bool
     requires { n ≤ most_events }
-    ensures { result ≡ leb (sum_of (was share) n) enough }
+    ensures { result ≡ leb (sum_of share.now n) enough }
 {
     let mut left = enough;
     for w in 0..n {
@@ -133,10 +134,10 @@ fn settle_by_rounds(
     enough: u32,
     n: usize,
 )
-    requires holds { Holds n pred amount fed free share }
+    requires holds { Holds n pred.now amount.old fed.old free.old share.old }
     requires order { Order n pred.now }
-    ensures moves { Moves n pred amount fed free share }
-    ensures ended { Ended n (was pred) enough (rows_are amount fed free share) (is givers) }
+    ensures moves { Moves n pred.now amount.old amount.new fed.old fed.new free.old free.new share.old share.new }
+    ensures ended { Ended n pred.now enough (rows amount.new fed.new free.new share.new) givers.new }
 {
     let mut takers = [0u32; WORDS];
     let mut queue = [0usize; EVENTS];
@@ -175,10 +176,10 @@ pub fn settle(
     enough: u32,
     n: usize,
 )
-    requires holds { Holds n pred amount fed free share }
+    requires holds { Holds n pred.now amount.old fed.old free.old share.old }
     requires order { Order n pred.now }
-    ensures moves { Moves n pred amount fed free share }
-    ensures ended { Ended n (was pred) enough (rows_are amount fed free share) (is givers) }
+    ensures moves { Moves n pred.now amount.old amount.new fed.old fed.new free.old free.new share.old share.new }
+    ensures ended { Ended n pred.now enough (rows amount.new fed.new free.new share.new) givers.new }
 {
     if is_covered(share, n, enough) {
         return;

@@ -1,5 +1,7 @@
 // What the bytes of a sheet say: its contents table, its items, its net and plan, and its faults, in specs/. Here only the struct in which
 // every call tells a fault.
+#![tactic(auto)]
+
 ghost use Rattle.std.specs.Prelude.{◌<◌, ◌≡◌};
 ghost use Rattle.ids.specs.Limits.{most_pairs};
 ghost use Rattle.sheet.specs.Told.{fault_at, no_fault};

@@ -1,4 +1,6 @@
 // The counts of all places with working rows as long as the plan needs them, for the plan judgement and the listing.
+#![tactic(auto)]
+
 ghost use Rattle.std.specs.Prelude.{◌*◌, ◌<◌, ◌≤◌, length};
 ghost use Rattle.ids.specs.Limits.{most_events, small_plan, middle_plan};
 ghost use Rattle.place_counts.specs.Counting.{Countable, Counted};
@@ -23,9 +25,9 @@ fn count_in(
     amount: &mut [u32],
     row: &mut [u32],
 ) -> First
-    requires countable { Countable s l pred row }
+    requires countable { Countable s.now l pred.now row.old }
     requires most_events_in_bounds { l.events * most_events ≤ length amount.old }
-    ensures { Counted s l least row result }
+    ensures { Counted s.now l least row.old row.new result }
 {
     let mut order = [0usize; EVENTS];
     event_order(pred, l.events, &mut order);
@@ -39,9 +41,9 @@ fn count_in(
 
 // Counts with the amounts of a plan of few events.
 fn count_few(s: &[u8], l: Layout, least: bool, pred: &[u32; ROWS], row: &mut [u32]) -> First
-    requires countable { Countable s l pred row }
+    requires countable { Countable s.now l pred.now row.old }
     requires events_le_few_events { l.events ≤ few_events }
-    ensures { Counted s l least row result }
+    ensures { Counted s.now l least row.old row.new result }
 {
     let mut amount = [0u32; FEW_SQUARE];
     count_in(s, l, least, pred, &mut amount, row)
@@ -49,9 +51,9 @@ fn count_few(s: &[u8], l: Layout, least: bool, pred: &[u32; ROWS], row: &mut [u3
 
 // Counts with the amounts of a small plan.
 fn count_small(s: &[u8], l: Layout, least: bool, pred: &[u32; ROWS], row: &mut [u32]) -> First
-    requires countable { Countable s l pred row }
+    requires countable { Countable s.now l pred.now row.old }
     requires events_le_small_plan { l.events ≤ small_plan }
-    ensures { Counted s l least row result }
+    ensures { Counted s.now l least row.old row.new result }
 {
     let mut amount = [0u32; SMALL_SQUARE];
     count_in(s, l, least, pred, &mut amount, row)
@@ -59,9 +61,9 @@ fn count_small(s: &[u8], l: Layout, least: bool, pred: &[u32; ROWS], row: &mut [
 
 // Counts with the amounts of a middling plan.
 fn count_middle(s: &[u8], l: Layout, least: bool, pred: &[u32; ROWS], row: &mut [u32]) -> First
-    requires countable { Countable s l pred row }
+    requires countable { Countable s.now l pred.now row.old }
     requires events_le_middle_plan { l.events ≤ middle_plan }
-    ensures { Counted s l least row result }
+    ensures { Counted s.now l least row.old row.new result }
 {
     let mut amount = [0u32; MIDDLE_SQUARE];
     count_in(s, l, least, pred, &mut amount, row)
@@ -69,9 +71,9 @@ fn count_middle(s: &[u8], l: Layout, least: bool, pred: &[u32; ROWS], row: &mut 
 
 // Counts with the amounts of any plan.
 fn count_large(s: &[u8], l: Layout, least: bool, pred: &[u32; ROWS], row: &mut [u32]) -> First
-    requires countable { Countable s l pred row }
+    requires countable { Countable s.now l pred.now row.old }
     requires events_le_most_events { l.events ≤ most_events }
-    ensures { Counted s l least row result }
+    ensures { Counted s.now l least row.old row.new result }
 {
     let mut amount = [0u32; SQUARE];
     count_in(s, l, least, pred, &mut amount, row)
@@ -87,9 +89,9 @@ fn count_within(
     row: &mut [u32],
     most: usize,
 ) -> First
-    requires countable { Countable s l pred row }
+    requires countable { Countable s.now l pred.now row.old }
     requires most_nonzero { (0 < most) × (l.events ≤ most_events) }
-    ensures { Counted s l least row result }
+    ensures { Counted s.now l least row.old row.new result }
 {
     if l.events > most {
         return count_within(s, l, least, pred, row, 4 * most);
@@ -109,8 +111,8 @@ fn count_within(
 // Counts at each place of a sheet without fault, with working rows as the plan needs them: the least opening counts, or only what is missing,
 // which is settled sooner.
 pub fn count_all(s: &[u8], l: Layout, least: bool, pred: &[u32; ROWS], row: &mut [u32]) -> First
-    requires { Countable s l pred row }
-    ensures { Counted s l least row result }
+    requires { Countable s.now l pred.now row.old }
+    ensures { Counted s.now l least row.old row.new result }
 {
     count_within(s, l, least, pred, row, FEW)
 }

@@ -1,4 +1,6 @@
 // A place judged with working rows as long as the plan needs them.
+#![tactic(auto)]
+
 ghost use Rattle.std.specs.Prelude.{◌<◌, ◌≤◌};
 ghost use Rattle.handing.specs.Known.{Judgeable, JudgedBy};
 ghost use Rattle.ids.specs.Limits.{most_events, small_plan, middle_plan};
@@ -17,9 +19,9 @@ fn judge_small(
     flow: &mut [u32],
     marks: &mut [u8],
 ) -> i32
-    requires judgeable { Judgeable s l p succ pred flow marks }
+    requires judgeable { Judgeable s.now l p succ.now pred.now flow.old marks.old }
     requires events_le_small_plan { l.events ≤ small_plan }
-    ensures { JudgedBy s p flow marks result }
+    ensures { JudgedBy s.now p flow.old flow.new marks.old marks.new result }
 {
     let mut amount = [0u32; SMALL_SQUARE];
     judge_in(s, l, p, succ, pred, &mut amount, flow, marks)
@@ -35,9 +37,9 @@ fn judge_middle(
     flow: &mut [u32],
     marks: &mut [u8],
 ) -> i32
-    requires judgeable { Judgeable s l p succ pred flow marks }
+    requires judgeable { Judgeable s.now l p succ.now pred.now flow.old marks.old }
     requires events_le_middle_plan { l.events ≤ middle_plan }
-    ensures { JudgedBy s p flow marks result }
+    ensures { JudgedBy s.now p flow.old flow.new marks.old marks.new result }
 {
     let mut amount = [0u32; MIDDLE_SQUARE];
     judge_in(s, l, p, succ, pred, &mut amount, flow, marks)
@@ -53,9 +55,9 @@ fn judge_large(
     flow: &mut [u32],
     marks: &mut [u8],
 ) -> i32
-    requires judgeable { Judgeable s l p succ pred flow marks }
+    requires judgeable { Judgeable s.now l p succ.now pred.now flow.old marks.old }
     requires events_le_most_events { l.events ≤ most_events }
-    ensures { JudgedBy s p flow marks result }
+    ensures { JudgedBy s.now p flow.old flow.new marks.old marks.new result }
 {
     let mut amount = [0u32; SQUARE];
     judge_in(s, l, p, succ, pred, &mut amount, flow, marks)
@@ -73,9 +75,9 @@ pub fn judge_within(
     marks: &mut [u8],
     most: usize,
 ) -> i32
-    requires judgeable { Judgeable s l p succ pred flow marks }
+    requires judgeable { Judgeable s.now l p succ.now pred.now flow.old marks.old }
     requires most_nonzero { (0 < most) × (l.events ≤ most_events) }
-    ensures { JudgedBy s p flow marks result }
+    ensures { JudgedBy s.now p flow.old flow.new marks.old marks.new result }
 {
     if l.events > most {
         return judge_within(s, l, p, succ, pred, flow, marks, 4 * most);

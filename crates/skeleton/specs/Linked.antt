@@ -1,6 +1,5 @@
 -- Rows by which skeleton pairs are found: a mark for each, and the index with their numbers.
 use Rattle.std.specs.Prelude.{ℕ, ◌<◌, List, ◌≡◌, T}
-use Rattle.ids.specs.Lent.{Held, Lent, was}
 use Rattle.ids.specs.Limits.{most_events}
 use Rattle.plan.specs.Net.{Plan}
 use Rattle.plan.specs.Order.{skeleton}
@@ -21,9 +20,9 @@ pub record Linked (P : Plan) (m : ℕ) (skel index : List ℕ) : Type 0 where
   pub lists : Lists P m index
 
 -- Some plan has the index and a skeleton pair from a to b.
-abbrev pub MayFind : Held → ℕ → ℕ → Type 0
-MayFind index a b = (P : Plan) × Lists P P.pairs index.now × (i : ℕ) × IsLink P P.pairs a b i
+abbrev pub MayFind : List ℕ → ℕ → ℕ → Type 0
+MayFind index a b = (P : Plan) × Lists P P.pairs index × (i : ℕ) × IsLink P P.pairs a b i
 
 -- In every plan that has the index i is such a pair.
-abbrev pub FoundAt : Lent → ℕ → ℕ → ℕ → Type 0
-FoundAt index a b i = (P : Plan) → Lists P P.pairs (was index) → IsLink P P.pairs a b i
+abbrev pub FoundAt : List ℕ → ℕ → ℕ → ℕ → Type 0
+FoundAt index a b i = (P : Plan) → Lists P P.pairs index → IsLink P P.pairs a b i

@@ -1,6 +1,7 @@
 // The skeleton pairs of a sheet in rows: a mark for each, and an index by which its number is found.
+#![tactic(auto)]
+
 ghost use Rattle.std.specs.Prelude.{◌≤◌, ◌<◌, ◌≡◌, get_or, length};
-ghost use Rattle.ids.specs.Lent.{was, is};
 ghost use Rattle.ids.specs.Limits.{most_events, most_pairs};
 ghost use Rattle.sheet.specs.Table.{pairs_of};
 ghost use Rattle.sheet.specs.Items.{plan_of};
@@ -23,7 +24,7 @@ pub const INDEX: usize = EVENTS + PAIRS + PAIRS;
 // Lists pair i, from a to b, as the last of b.
 fn list_pair(index: &mut [u16], a: Event, b: Event, i: usize)
     requires { (a.0 < most_events) × (b.0 < most_events) × (i < most_pairs) × (index_size ≤ length index.old) }
-    ensures { PairListed (was index) (is index) a.0 b.0 i }
+    ensures { PairListed index.old index.new a.0 b.0 i }
 {
     let to = b.0;
     index[EVENTS + i] = index[to];
@@ -43,7 +44,7 @@ pub fn index_pairs(
     requires faultless { Faultless s.now × LayoutOf s.now l }
     requires order_rows { OrderRows (plan_of s.now) succ.now pred.now }
     requires blank { Blank skel.old × Unlisted index.old }
-    ensures { Linked (plan_of s.now) (pairs_of s.now) (is skel) (is index) }
+    ensures { Linked (plan_of s.now) (pairs_of s.now) skel.new index.new }
 {
     for i in 0..l.pairs {
         let a = earlier(s, l, i);
@@ -65,7 +66,7 @@ fn wide(x: u16) -> usize
 // An entry of the index.
 fn entry(index: &[u16; INDEX], at: usize) -> usize
     requires { at < index_size }
-    ensures { result ≡ get_or (was index) at 0 }
+    ensures { result ≡ get_or index.now at 0 }
 {
     wide(index[at])
 }
@@ -73,8 +74,8 @@ fn entry(index: &[u16; INDEX], at: usize) -> usize
 // The number of the skeleton pair from a to b, found in the list of b.
 pub fn pair_number(index: &[u16; INDEX], a: Event, b: Event) -> usize
     requires a_lt_most_events { (a.0 < most_events) × (b.0 < most_events) }
-    requires may_find { MayFind index a.0 b.0 }
-    ensures { FoundAt index a.0 b.0 result }
+    requires may_find { MayFind index.now a.0 b.0 }
+    ensures { FoundAt index.now a.0 b.0 result }
 {
     let mut i = entry(index, b.0) - 1;
     while entry(index, EVENTS + PAIRS + i) != a.0 {

@@ -1,8 +1,9 @@
 // The pairs of a plan, gone over event by event, an event after all that have a pair to it. If the pairs have a cycle, events are left out, else none.
 // The numbers of events and pairs and both rows say which plan it is, also to a function that reads less of it.
+#![tactic(auto)]
+
 ghost use Rattle.std.specs.Prelude.{◌+◌, ◌<◌, ◌≤◌, ◌≡◌, get_or, length};
 ghost use Rattle.finite.specs.Queue.{Queued};
-ghost use Rattle.ids.specs.Lent.{was, is};
 ghost use Rattle.ids.specs.Limits.{most_events, most_pairs};
 ghost use Rattle.sorting.specs.Rows.{plan_by, PlanInRows, has_cycle};
 ghost use Rattle.sorting.specs.Sorted.{ready, Round, NoLists, SortedTo};
@@ -15,7 +16,7 @@ use ids::{EVENTS, Event, PAIRS};
 fn list_pair(i: usize, a: Event, b: Event, first: &mut [u16], next: &mut [u16], left: &mut [u16])
     requires i_lt_most_pairs { (i < most_pairs) × (i < length next.old) × (a.0 < length first.old) × (b.0 < length left.old) }
     requires b_bound { get_or left.old b.0 0 ≤ most_pairs }
-    ensures { PairListed (was first) (was next) (was left) (is first) (is next) (is left) i a.0 b.0 }
+    ensures { PairListed first.old next.old left.old first.new next.new left.new i a.0 b.0 }
 {
     let from = a.0;
     let to = b.0;
@@ -36,7 +37,7 @@ fn list_pairs(
 )
     requires plan_in_rows { PlanInRows events pairs from.now to.now }
     requires listed { Listed (plan_by events pairs from.now to.now) first.old next.old left.old 0 }
-    ensures { Listed (plan_by events pairs (was from) (was to)) (is first) (is next) (is left) pairs }
+    ensures { Listed (plan_by events pairs from.now to.now) first.new next.new left.new pairs }
 {
     for i in 0..pairs {
         let a = Event(from[i] as usize);
@@ -48,7 +49,7 @@ fn list_pairs(
 // Puts the events that wait for nothing into the queue, and returns how many they are.
 fn seed(events: usize, left: &[u16; EVENTS], queue: &mut [u8]) -> usize
     requires { (events ≤ most_events) × (events ≤ length queue.old) }
-    ensures { Queued events (ready events (was left)) (is queue) result }
+    ensures { Queued events (ready events left.now) queue.new result }
 {
     let mut end = 0;
     for v in 0..events {
@@ -63,7 +64,7 @@ fn seed(events: usize, left: &[u16; EVENTS], queue: &mut [u8]) -> usize
 // The event v waits for one pair less; if that was the last, it joins the queue. Returns how many are in the queue.
 fn lower(v: Event, left: &mut [u16], queue: &mut [u8], end: usize) -> usize
     requires { (v.0 < most_events) × (v.0 < length left.old) × (1 ≤ get_or left.old v.0 0) × (end < length queue.old) }
-    ensures { Lowered (was left) (was queue) (is left) (is queue) v.0 end result }
+    ensures { Lowered left.old queue.old left.new queue.new v.0 end result }
 {
     let i = v.0;
     left[i] -= 1;
@@ -90,7 +91,7 @@ fn follow(
     requires plan_in_rows { PlanInRows events pairs from.now to.now }
     requires lists { Lists (plan_by events pairs from.now to.now) pairs first.now next.now }
     requires round { Round (plan_by events pairs from.now to.now) left.old queue.old h tail × (h < tail) }
-    ensures { Round (plan_by events pairs (was from) (was to)) (is left) (is queue) (h + 1) result }
+    ensures { Round (plan_by events pairs from.now to.now) left.new queue.new (h + 1) result }
 {
     let mut end = tail;
     let mut at = first[queue[h] as usize] as usize;
@@ -118,7 +119,7 @@ fn sort(
     requires plan_in_rows { PlanInRows events pairs from.now to.now }
     requires lists { Lists (plan_by events pairs from.now to.now) pairs first.now next.now }
     requires round { Round (plan_by events pairs from.now to.now) left.old queue.old 0 tail }
-    ensures { Round (plan_by events pairs (was from) (was to)) (is left) (is queue) result result }
+    ensures { Round (plan_by events pairs from.now to.now) left.new queue.new result result }
 {
     let mut end = tail;
     let mut h = 0;
@@ -142,7 +143,7 @@ pub fn sort_events(
 ) -> usize
     requires plan_in_rows { PlanInRows events pairs from.now to.now }
     requires no_lists { NoLists first.old next.old }
-    ensures { SortedTo (plan_by events pairs (was from) (was to)) (is first) (is next) (is queue) result }
+    ensures { SortedTo (plan_by events pairs from.now to.now) first.new next.new queue.new result }
 {
     let mut left = [0u16; EVENTS];
     list_pairs(events, pairs, from, to, first, next, &mut left);
@@ -153,7 +154,7 @@ pub fn sort_events(
 // Whether the pairs have a cycle.
 pub fn has_cycle(events: usize, pairs: usize, from: &[u8; PAIRS], to: &[u8; PAIRS]) -> bool
     requires { PlanInRows events pairs from.now to.now }
-    ensures { result ≡ has_cycle (plan_by events pairs (was from) (was to)) }
+    ensures { result ≡ has_cycle (plan_by events pairs from.now to.now) }
 {
     let mut first = [0u16; EVENTS];
     let mut next = [0u16; PAIRS];

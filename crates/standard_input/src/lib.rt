@@ -1,4 +1,6 @@
 // A sheet read from standard input, for the programs.
+#![tactic(auto)]
+
 #[derive(Drop)]
 pub enum Input {
     Bytes(usize),

@@ -1,6 +1,7 @@
 // What the counts of all places come to: the total missing, the number of short places, and the verdict.
+#![tactic(auto)]
+
 ghost use Rattle.std.specs.Prelude.{◌+◌, ◌≤◌, ◌<◌, ◌≡◌, length};
-ghost use Rattle.ids.specs.Lent.{was};
 ghost use Rattle.ids.specs.Limits.{most_places};
 ghost use Rattle.summary.specs.Summary.{total_missing, short_places, count_at, MissingCounts, values_in, values_of};
 ghost use Rattle.summary.specs.Summary.{VerdictOf, NextVerdict, verdict_number, verdict_place};
@@ -24,7 +25,7 @@ pub struct Totals {
 
 fn total_missing(row: &[u32], n: usize) -> u32
     requires { MissingCounts row.now n × (n ≤ length row.now) }
-    ensures { result ≡ total_missing (count_at (was row)) n }
+    ensures { result ≡ total_missing (count_at row.now) n }
 {
     let mut total: u32 = 0;
     for p in 0..n {
@@ -35,7 +36,7 @@ fn total_missing(row: &[u32], n: usize) -> u32
 
 fn short_places(row: &[u32], n: usize) -> u32
     requires { MissingCounts row.now n × (n ≤ length row.now) }
-    ensures { result ≡ short_places (count_at (was row)) n }
+    ensures { result ≡ short_places (count_at row.now) n }
 {
     let mut short: u32 = 0;
     for p in 0..n {
@@ -61,7 +62,7 @@ fn keep_first(v: Verdict, p: Place, m: u32) -> Verdict
 
 fn verdict_of(row: &[u32], n: usize) -> Verdict
     requires { n ≤ length row.now }
-    ensures { VerdictOf (count_at (was row)) n result }
+    ensures { VerdictOf (count_at row.now) n result }
 {
     let mut v = Verdict::Runs;
     for p in 0..n {
@@ -73,7 +74,7 @@ fn verdict_of(row: &[u32], n: usize) -> Verdict
 // What the counts of the first n places come to.
 pub fn sum_up(row: &[u32], n: usize) -> Totals
     requires { MissingCounts row.now n × (n ≤ length row.now) }
-    ensures { values_in result ≡ values_of (count_at (was row)) n }
+    ensures { values_in result ≡ values_of (count_at row.now) n }
 {
     let total = total_missing(row, n);
     let short = short_places(row, n);

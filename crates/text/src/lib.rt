@@ -1,4 +1,6 @@
 // Text written into a row of bytes: words and decimal numbers. Each call returns where its text ends and leaves the rest of the row.
+#![tactic(auto)]
+
 ghost use Rattle.std.specs.Prelude.{◌+◌, ◌≤◌, ◌++◌, ◌≡◌, length};
 ghost use Rattle.std.proofs.Math.IntN.{sub_ℕ};
 ghost use Rattle.text.specs.Words.{decimal, signed};

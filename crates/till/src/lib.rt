@@ -1,4 +1,6 @@
 // What the till server gets of an answer: one number.
+#![tactic(auto)]
+
 ghost use Rattle.std.specs.Prelude.{◌<◌, ◌≡◌};
 ghost use Rattle.plan_judgement.specs.Judgement.{says};
 ghost use Rattle.till.specs.Till.{answers_below, number_said};

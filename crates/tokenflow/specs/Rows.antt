@@ -1,7 +1,6 @@
 -- A tokenflow on "before" at one place, in rows of numbers and marks: who feeds whom, what givers have free, what takers lack.
 use Rattle.std.specs.Prelude.{ℕ, ◌+◌, ◌*◌, ◌≤◌, ◌<◌, List, ◌≡◌, ◌⊎◌, T, eqb, length, get_or}
 use Rattle.finite.specs.Sum.{on}
-use Rattle.ids.specs.Lent.{Held, Lent, was, is}
 use Rattle.ids.specs.Limits.{most_events}
 use Rattle.marks.specs.Marks.{marked}
 
@@ -33,16 +32,6 @@ pub record Rows : Type 0 where
 
 abbrev pub rows : List ℕ → List ℕ → List ℕ → List ℕ → Rows
 rows a f r s = record { amount = a; fed = f; free = r; share = s }
-
--- Rows that are lent: as they are when a call is made, at its entry, and at its exit.
-abbrev pub held_rows : Held → Held → Held → Held → Rows
-held_rows amount fed free share = rows amount.now fed.now free.now share.now
-
-abbrev pub rows_were : Lent → Lent → Lent → Lent → Rows
-rows_were amount fed free share = rows (was amount) (was fed) (was free) (was share)
-
-abbrev pub rows_are : Lent → Lent → Lent → Lent → Rows
-rows_are amount fed free share = rows (is amount) (is fed) (is free) (is share)
 
 -- The second rows are the first with k tokens drawn from u for w.
 pub record Drawn (r r' : Rows) (u w k : ℕ) : Type 0 where

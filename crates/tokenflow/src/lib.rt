@@ -1,9 +1,10 @@
 // The tokenflow at one place, in rows that a caller lends: tokens drawn from a giver for a taker, and given back.
+#![tactic(auto)]
+
 ghost use Rattle.std.specs.Prelude.{◌+◌, ◌*◌, ◌<◌, ◌≤◌, T, length, get_or};
-ghost use Rattle.ids.specs.Lent.{was, is};
 ghost use Rattle.ids.specs.Limits.{most_events};
 ghost use Rattle.marks.specs.Marks.{marked};
-ghost use Rattle.tokenflow.specs.Rows.{fed_by, held_rows, rows_were, rows_are, Exact, Raised, Lowered, MayDraw, MayGiveBack, Drawn};
+ghost use Rattle.tokenflow.specs.Rows.{fed_by, rows, Exact, Raised, Lowered, MayDraw, MayGiveBack, Drawn};
 
 use ids::{EVENTS, Event, ROWS};
 
@@ -12,7 +13,7 @@ fn raise(amount: &mut [u32], fed: &mut [u32; ROWS], u: Event, w: Event, k: u32)
     requires u_lt_most_events { (u.0 < most_events) × (w.0 < most_events) }
     requires w_in_bounds { u.0 * most_events + w.0 < length amount.old }
     requires k_bound { fed_by amount.old fed.old u.0 w.0 + k < 4294967296 }
-    ensures { Raised (was amount) (was fed) (is amount) (is fed) u.0 w.0 k }
+    ensures { Raised amount.old fed.old amount.new fed.new u.0 w.0 k }
 {
     let at = u.0 * EVENTS + w.0;
     if marks::is_marked(fed, u.0, w.0) {
@@ -28,8 +29,8 @@ fn lower(amount: &mut [u32], fed: &mut [u32; ROWS], u: Event, w: Event, k: u32)
     requires u_lt_most_events { (u.0 < most_events) × (w.0 < most_events) }
     requires w_in_bounds { u.0 * most_events + w.0 < length amount.old }
     requires t { T (marked fed.old u.0 w.0) × (k ≤ get_or amount.old (u.0 * most_events + w.0) 0) }
-    ensures raised { Raised (is amount) (is fed) (was amount) (was fed) u.0 w.0 k }
-    ensures exact { Exact (was amount) (was fed) → Exact (is amount) (is fed) }
+    ensures raised { Raised amount.new fed.new amount.old fed.old u.0 w.0 k }
+    ensures exact { Exact amount.old fed.old → Exact amount.new fed.new }
 {
     let at = u.0 * EVENTS + w.0;
     let have = amount[at];
@@ -44,7 +45,7 @@ fn lower(amount: &mut [u32], fed: &mut [u32; ROWS], u: Event, w: Event, k: u32)
 fn spend(row: &mut [u32], v: Event, k: u32)
     requires v_in_bounds { v.0 < length row.old }
     requires k_bound { k ≤ get_or row.old v.0 0 }
-    ensures { Lowered (was row) (is row) v.0 k }
+    ensures { Lowered row.old row.new v.0 k }
 {
     let i = v.0;
     row[i] -= k;
@@ -54,7 +55,7 @@ fn spend(row: &mut [u32], v: Event, k: u32)
 fn refund(row: &mut [u32], v: Event, k: u32)
     requires v_in_bounds { v.0 < length row.old }
     requires k_bound { get_or row.old v.0 0 + k < 4294967296 }
-    ensures { Lowered (is row) (was row) v.0 k }
+    ensures { Lowered row.new row.old v.0 k }
 {
     let i = v.0;
     row[i] += k;
@@ -70,8 +71,8 @@ pub fn draw(
     w: Event,
     k: u32,
 )
-    requires { MayDraw (held_rows amount fed free share) u.0 w.0 k }
-    ensures { Drawn (rows_were amount fed free share) (rows_are amount fed free share) u.0 w.0 k }
+    requires { MayDraw (rows amount.old fed.old free.old share.old) u.0 w.0 k }
+    ensures { Drawn (rows amount.old fed.old free.old share.old) (rows amount.new fed.new free.new share.new) u.0 w.0 k }
 {
     raise(amount, fed, u, w, k);
     spend(free, u, k);
@@ -88,9 +89,9 @@ pub fn give_back(
     w: Event,
     k: u32,
 )
-    requires { MayGiveBack (held_rows amount fed free share) u.0 w.0 k }
-    ensures drawn { Drawn (rows_are amount fed free share) (rows_were amount fed free share) u.0 w.0 k }
-    ensures exact { Exact (was amount) (was fed) → Exact (is amount) (is fed) }
+    requires { MayGiveBack (rows amount.old fed.old free.old share.old) u.0 w.0 k }
+    ensures drawn { Drawn (rows amount.new fed.new free.new share.new) (rows amount.old fed.old free.old share.old) u.0 w.0 k }
+    ensures exact { Exact amount.old fed.old → Exact amount.new fed.new }
 {
     lower(amount, fed, u, w, k);
     refund(free, u, k);

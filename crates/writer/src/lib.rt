@@ -1,9 +1,10 @@
 // A sheet written into a lent row of bytes, in parts: its table, a part of another sheet, a pair. Each call returns where its bytes end and leaves
 // the rest of the row.
+#![tactic(auto)]
+
 ghost use Rattle.std.specs.Prelude.{◌+◌, ◌<◌, ◌≤◌, ◌≡◌, length};
 ghost use Rattle.std.proofs.Math.Seq.{slice};
 ghost use Rattle.finite.specs.Stands.{Bytes};
-ghost use Rattle.ids.specs.Lent.{was, is};
 ghost use Rattle.ids.specs.Limits.{most_places, most_transitions, most_events, most_pairs};
 ghost use Rattle.layout.specs.Layout.{FourBytes, WithinLimits};
 ghost use Rattle.numbers.specs.Number.{bytes};
@@ -20,7 +21,7 @@ use text::low;
 fn put16(row: &mut [u8], at: usize, n: u32) -> usize
     requires at_in_bounds { at + 2 ≤ length row.old }
     requires n_bound { n < 65536 }
-    ensures { Put (was row) (is row) at (bytes 2 n) result × (result ≡ at + 2) }
+    ensures { Put row.old row.new at (bytes 2 n) result × (result ≡ at + 2) }
 {
     row[at] = low(n % 256);
     row[at + 1] = low(n / 256);
@@ -30,7 +31,7 @@ fn put16(row: &mut [u8], at: usize, n: u32) -> usize
 // A number of 4 bytes.
 fn put32(row: &mut [u8], at: usize, n: u32) -> usize
     requires { at + 4 ≤ length row.old }
-    ensures { Put (was row) (is row) at (bytes 4 n) result × (result ≡ at + 4) }
+    ensures { Put row.old row.new at (bytes 4 n) result × (result ≡ at + 4) }
 {
     let half = put16(row, at, n % 65536);
     put16(row, half, n / 65536)
@@ -40,7 +41,7 @@ fn put32(row: &mut [u8], at: usize, n: u32) -> usize
 fn put_entry(row: &mut [u8], at: usize, start: usize, count: usize) -> usize
     requires at_in_bounds { at + 8 ≤ length row.old }
     requires start_bound { (start < 4294967296) × (count < 4294967296) }
-    ensures { Put (was row) (is row) at (entry start count) result × (result ≡ at + 8) }
+    ensures { Put row.old row.new at (entry start count) result × (result ≡ at + 8) }
 {
     let half = put32(row, at, start as u32);
     put32(row, half, count as u32)
@@ -71,7 +72,7 @@ pub fn lay_out(places: usize, transitions: usize, events: usize, pairs: usize) -
 pub fn put_table(row: &mut [u8], l: Layout) -> usize
     requires table_length_in_bounds { table_length ≤ length row.old }
     requires within_limits { WithinLimits l × FourBytes l }
-    ensures { Put (was row) (is row) 0 (table l) result × (result ≡ table_length) }
+    ensures { Put row.old row.new 0 (table l) result × (result ≡ table_length) }
 {
     let a = put_entry(row, 0, l.places_at, l.places);
     let b = put_entry(row, a, l.transitions_at, l.transitions);
@@ -83,8 +84,8 @@ pub fn put_table(row: &mut [u8], l: Layout) -> usize
 // numbers.
 pub fn put_part(row: &mut [u8], at: usize, s: &[u8], from: usize, to: usize) -> usize
     requires { (from ≤ to) × (to ≤ length s.now) × (at + to ≤ length row.old + from) }
-    ensures put { Put (was row) (is row) at (slice from to (was s)) result × (result + from ≡ at + to) }
-    ensures bytes { Bytes (slice from to (was s)) }
+    ensures put { Put row.old row.new at (slice from to s.now) result × (result + from ≡ at + to) }
+    ensures bytes { Bytes (slice from to s.now) }
 {
     for i in from..to {
         row[at + (i - from)] = low(byte(s, i));
@@ -96,7 +97,7 @@ pub fn put_part(row: &mut [u8], at: usize, s: &[u8], from: usize, to: usize) -> 
 pub fn put_pair(row: &mut [u8], at: usize, a: Event, b: Event) -> usize
     requires at_in_bounds { at + 4 ≤ length row.old }
     requires a_lt_most_events { (a.0 < most_events) × (b.0 < most_events) }
-    ensures { Put (was row) (is row) at (pair_bytes a.0 b.0) result × (result ≡ at + 4) }
+    ensures { Put row.old row.new at (pair_bytes a.0 b.0) result × (result ≡ at + 4) }
 {
     let half = put16(row, at, a.0 as u32);
     put16(row, half, b.0 as u32)
