@@ -60,7 +60,7 @@ def names():
             elif line and not line.startswith("  "):
                 record = False
             m = DECLARED.match(line)
-            if m and not line.startswith("    "):
+            if m and (not line.startswith("        ") or line.lstrip().startswith("pub ")):
                 new = spelled(m.group(1))
                 if new != m.group(1):
                     found[m.group(1)] = new
@@ -91,7 +91,7 @@ def apart(found):
     for o, n in new.items():
         seen.setdefault(n, []).append(o)
     together = {o for n, olds in seen.items() if len(olds) > 1 or n in words and in_one_file(olds[0], n) for o in olds}
-    return new | LEMMAS, together
+    return new | {o: n for o, n in LEMMAS.items() if o in new.values()}, together
 
 
 def turn(text, found, fields):

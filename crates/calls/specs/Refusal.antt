@@ -21,8 +21,8 @@ module _ (e : Examined) (found : Bool) (k : ℕ) where
   next_lower there = record { fault = sym (lower_told e.fault found k there); layout = refl }
 
   module _ (clear : e.fault.number ≡ 0) (r : Examined) (same : r.layout ≡ e.layout) where
-    pub next-not : found ≡ false → r.fault ≡ no_fault → Next e found k r
-    next-not not told = record { fault = told ∙ sym (none_told e.fault found k clear not); layout = same }
+    pub next_not : found ≡ false → r.fault ≡ no_fault → Next e found k r
+    next_not not told = record { fault = told ∙ sym (none_told e.fault found k clear not); layout = same }
 
     pub next_here : found ≡ true → r.fault ≡ fault_at k 0 → Next e found k r
     next_here here told = record { fault = told ∙ sym (here_told e.fault found k clear here); layout = same }

@@ -50,8 +50,8 @@ module _ (events pairs : ℕ) (from to first next queue : List ℕ) (sorted : So
   head_few = omega (arith, sorted.lists.heads u event_few, last_le (starts_at P u) pairs, sorted.within.most)
 
   module _ (D : ℕ → Type 0) where
-    pub along-start : (rows : List ℕ) → Carried P D rows → Along P u D (get_or first u 0) rows
-    along-start rows c =
+    pub along_start : (rows : List ℕ) → Carried P D rows → Along P u D (get_or first u 0) rows
+    along_start rows c =
         let is = sorted.lists.heads u event_few in
         record {
           here = linked pairs (get_or first u 0) (omega arith) is;
@@ -62,29 +62,29 @@ module _ (events pairs : ℕ) (from to first next queue : List ℕ) (sorted : So
         }
 
     module _ (at : ℕ) (rows : List ℕ) (along : Along P u D at rows) where
-      pub along-end : (E : ℕ → Type 0) → at ≡ 0 → ((i : ℕ) → E i → D i ⊎ (P.earlier i ≡ u)) → Carried P E rows
-      along-end E none all = carried_less P along.carried (λ i l e. ⊎_elim inl (λ own. inr (own, omega (arith, none))) (all i e))
+      pub along_end : (E : ℕ → Type 0) → at ≡ 0 → ((i : ℕ) → E i → D i ⊎ (P.earlier i ≡ u)) → Carried P E rows
+      along_end E none all = carried_less P along.carried (λ i l e. ⊎_elim inl (λ own. inr (own, omega (arith, none))) (all i e))
 
       module _ (some : 0 < at) where
         pub this : (at - 1 < pairs) × (P.earlier (at - 1) ≡ u)
         this = along.here (at - 1) (omega (arith, some))
 
-        pub this-few : at - 1 < most_pairs
-        this-few = omega (arith, this.0, sorted.within.most)
+        pub this_few : at - 1 < most_pairs
+        this_few = omega (arith, this.0, sorted.within.most)
 
-        pub this-end : P.later (at - 1) < most_events
-        this-end = omega (arith, sorted.within.named.later (at - 1) this.0, sorted.within.few)
+        pub this_end : P.later (at - 1) < most_events
+        this_end = omega (arith, sorted.within.named.later (at - 1) this.0, sorted.within.few)
 
         link : get_or next (at - 1) 0 ≡ last (at - 1) (starts_at P u)
         link = sorted.lists.links (at - 1) this.0 ∙ ap (λ (x : ℕ). last (at - 1) (starts_at P x)) this.1
 
         -- the next pair of the list is an earlier one
-        pub along-less : get_or next (at - 1) 0 < at
-        along-less = omega (arith, some, link, last_le (starts_at P u) (at - 1))
+        pub along_less : get_or next (at - 1) 0 < at
+        along_less = omega (arith, some, link, last_le (starts_at P u) (at - 1))
 
-        pub along-more : {new : List ℕ} → ((i : ℕ) → i < pairs → P.later i ≡ P.earlier (at - 1) → D i)
+        pub along_more : {new : List ℕ} → ((i : ℕ) → i < pairs → P.later i ≡ P.earlier (at - 1) → D i)
             → RowCarried rows new (P.earlier (at - 1)) (P.later (at - 1)) → Along P u D (get_or next (at - 1) 0) new
-        along-more whole row =
+        along_more whole row =
             record {
               here = linked (at - 1) (get_or next (at - 1) 0) (omega (arith, this.0)) link;
               carried =

@@ -35,16 +35,16 @@ module _ {old mid new : List ℕ} {from into : ℕ} (joined : RowJoined old mid 
             (yes_or_right (marked mid into from) _ (yes_and (eqb into into) (eqb from from) (eqb_refl into) (eqb_refl from)));
         only = λ v u l t.
             ⊎_elim
-            (λ in-mid. ⊎_elim inl (by-join v u) (or_yes (marked old v u) (eqb v into && marked old from u) (subst T (joined.marks v u l) in-mid)))
-            (by-mark v u)
+            (λ in-mid. ⊎_elim inl (by_join v u) (or_yes (marked old v u) (eqb v into && marked old from u) (subst T (joined.marks v u l) in-mid)))
+            (by_mark v u)
             (or_yes (marked mid v u) (eqb v into && eqb u from) (subst T (added.marks v u l) t));
       }
     where
       Told : ℕ → ℕ → Type 0
       Told v u = T (marked old v u) ⊎ ((v ≡ into) × (T (marked old from u) ⊎ (u ≡ from)))
 
-      by-join : (v u : ℕ) → T (eqb v into && marked old from u) → Told v u
-      by-join v u t = let both = and_yes (eqb v into) (marked old from u) t in inr (eqb→eq v into both.0, inl both.1)
+      by_join : (v u : ℕ) → T (eqb v into && marked old from u) → Told v u
+      by_join v u t = let both = and_yes (eqb v into) (marked old from u) t in inr (eqb→eq v into both.0, inl both.1)
 
-      by-mark : (v u : ℕ) → T (eqb v into && eqb u from) → Told v u
-      by-mark v u t = let both = and_yes (eqb v into) (eqb u from) t in inr (eqb→eq v into both.0, inr (eqb→eq u from both.1))
+      by_mark : (v u : ℕ) → T (eqb v into && eqb u from) → Told v u
+      by_mark v u t = let both = and_yes (eqb v into) (eqb u from) t in inr (eqb→eq v into both.0, inr (eqb→eq u from both.1))

@@ -14,11 +14,11 @@ use Rattle.sorting.specs.Arranged.{Arranged}
 module _ (P : Plan) (queue : List ℕ) (arranged : Arranged P queue) where
   module _ (h : ℕ) (place : h < P.events) where
     -- the pairs to the event at h start below it
-    pub to-it : (i : ℕ) → i < P.pairs → P.later i ≡ get_or queue h 0 → starts_below P queue h i
-    to-it i l e = arranged.ordered h i place l e
+    pub to_it : (i : ℕ) → i < P.pairs → P.later i ≡ get_or queue h 0 → starts_below P queue h i
+    to_it i l e = arranged.ordered h i place l e
 
-    pub next-below : (i : ℕ) → starts_below P queue (h + 1) i → starts_below P queue h i ⊎ (P.earlier i ≡ get_or queue h 0)
-    next-below i at =
+    pub next_below : (i : ℕ) → starts_below P queue (h + 1) i → starts_below P queue h i ⊎ (P.earlier i ≡ get_or queue h 0)
+    next_below i at =
         below_next
         h
         at.0

@@ -2,7 +2,7 @@
 -- of its later event.
 use Rattle.std.specs.Prelude.{ℕ, ◌≤◌, ◌<◌, List, ◌⊎◌, ◌≡◌, refl, T, replicate}
 use Rattle.std.proofs.Common.{lt_of_lt_of_le, inl, inr, ⊎_elim, sym, subst}
-use Rattle.closure.specs.Ordered.{before-events}
+use Rattle.closure.specs.Ordered.{before_events}
 use Rattle.closure.specs.PlanRows.{Predecessors}
 use Rattle.ids.specs.Limits.{most_events}
 use Rattle.marks.specs.Marks.{marked, none_marked}
@@ -54,7 +54,7 @@ module _ (P : Plan) where
 
   module _ (named : Named P) (few : P.events ≤ most_events) where
     event_few : {u v : ℕ} → Before P u v → u < most_events
-    event_few b = lt_of_lt_of_le (before-events P named b).0 few
+    event_few b = lt_of_lt_of_le (before_events P named b).0 few
 
     -- One pair more, whose earlier event has all pairs to it carried.
     pub carried_more : {D : ℕ → Type 0} {rows new : List ℕ} (k : ℕ) → Carried P D rows → k < P.pairs → ((i : ℕ) → i < P.pairs → P.later i ≡ P.earlier k → D i)
@@ -66,9 +66,9 @@ module _ (P : Plan) where
             ⊎_elim
             (c.within.only v u lu)
             (λ at.
-            let to-it : Before P u (P.later k) =
+            let to_it : Before P u (P.later k) =
             ⊎_elim (λ old. chain (c.within.only (P.earlier k) u lu old) (pair k l)) (λ e. subst (λ (x : ℕ). Before P x (P.later k)) (sym e) (pair k l)) at.1 in
-            subst (λ (x : ℕ). Before P u x) (sym at.0) to-it)
+            subst (λ (x : ℕ). Before P u x) (sym at.0) to_it)
             (row.only v u lu t)
 
         this : (u : ℕ) → (u ≡ P.earlier k) ⊎ Before P u (P.earlier k) → T (marked new (P.later k) u)
@@ -93,9 +93,9 @@ module _ (P : Plan) where
             below = ⊎_elim (λ e. subst (λ (x : ℕ). x < most_events) (sym e) (lt_of_lt_of_le (named.earlier i li) few)) event_few
 
     -- Where all pairs are carried, the rows are those of what is before.
-    pub all-carried : {D : ℕ → Type 0} {rows : List ℕ} → Carried P D rows → ((i : ℕ) → i < P.pairs → D i) → Predecessors P rows
-    all-carried c all =
+    pub all_carried : {D : ℕ → Type 0} {rows : List ℕ} → Carried P D rows → ((i : ℕ) → i < P.pairs → D i) → Predecessors P rows
+    all_carried c all =
         record {
           marks = λ v u lv lu. (c.within.only v u (lt_of_lt_of_le lu few), row_whole c v (λ i l e. all i l) u);
-          only = λ v u lu t. (before-events P named (c.within.only v u lu t)).0;
+          only = λ v u lu t. (before_events P named (c.within.only v u lu t)).0;
         }

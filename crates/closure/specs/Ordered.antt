@@ -26,6 +26,6 @@ module _ (P : Plan) where
 
   module _ (named : Named P) where
     -- whatever is ordered is an event
-    pub before-events : {u v : ℕ} → Before P u v → (u < P.events) × (v < P.events)
-    before-events (pair i l) = (named.earlier i l, named.later i l)
-    before-events (chain p q) = ((before-events p).0, (before-events q).1)
+    pub before_events : {u v : ℕ} → Before P u v → (u < P.events) × (v < P.events)
+    before_events (pair i l) = (named.earlier i l, named.later i l)
+    before_events (chain p q) = ((before_events p).0, (before_events q).1)

@@ -121,29 +121,29 @@ module _ (s : List ℕ) (p : ℕ) (flow marks : List ℕ) (r : Judgement) (told 
       (eq-zero-or-pos (missing (net_of s) (plan_of s) p))
 
   module _ (short : 0 < missing (net_of s) (plan_of s) p) where
-    smallest-known : IsSmallest (net_of s) (plan_of s) p (smallest (net_of s) (plan_of s) p)
-    smallest-known = smallest_set (net_of s) (plan_of s) p (sound s (faultless s taken)) short
+    smallest_known : IsSmallest (net_of s) (plan_of s) p (smallest (net_of s) (plan_of s) p)
+    smallest_known = smallest_set (net_of s) (plan_of s) p (sound s (faultless s taken)) short
 
-    mark-is : (v : ℕ) → v < events_of s → get_or (marks_after s p flow marks) v 0 ≡ cond (smallest (net_of s) (plan_of s) p v) 1 0
+    mark_is : (v : ℕ) → v < events_of s → get_or (marks_after s p flow marks) v 0 ≡ cond (smallest (net_of s) (plan_of s) p v) 1 0
     unfolding marks_after done_mark
-    mark-is v l =
+    mark_is v l =
         ap (λ (row : List ℕ). get_or row v 0) (sym (at_none (judge_fault s p flow marks).number _ marks none))
         ∙ over_first (done_mark (net_of s) (plan_of s) p) (events_of s) marks v l (omega (arith, known.1))
         ∙ ap (λ (b : Bool). cond {A = ℕ} (b && smallest (net_of s) (plan_of s) p v) 1 0) (lt-ltb 0 (missing (net_of s) (plan_of s) p) short)
 
-    done-is : (v : ℕ) → smallest (net_of s) (plan_of s) p v ≡ done_in (events_of s) (marks_after s p flow marks) v
-    done-is v =
+    done_is : (v : ℕ) → smallest (net_of s) (plan_of s) p v ≡ done_in (events_of s) (marks_after s p flow marks) v
+    done_is v =
         let D : Bool = smallest (net_of s) (plan_of s) p v in
         let mark = get_or (marks_after s p flow marks) v 0 in
         same
         D
         (done_in (events_of s) (marks_after s p flow marks) v)
         (λ t.
-        let l = smallest-known.prefixed.events v t in
-        yes_and (ltb v (events_of s)) (eqb mark 1) (yes_ltb {a = v} {b = events_of s} l) (subst (λ (m : ℕ). T (eqb m 1)) (sym (mark-is v l)) ((one_is D).1 t)))
+        let l = smallest_known.prefixed.events v t in
+        yes_and (ltb v (events_of s)) (eqb mark 1) (yes_ltb {a = v} {b = events_of s} l) (subst (λ (m : ℕ). T (eqb m 1)) (sym (mark_is v l)) ((one_is D).1 t)))
         (λ t.
         let h = and_yes (ltb v (events_of s)) (eqb mark 1) t in
-        (one_is D).0 (subst (λ (m : ℕ). T (eqb m 1)) (mark-is v (ltb→lt v (events_of s) h.0)) h.1))
+        (one_is D).0 (subst (λ (m : ℕ). T (eqb m 1)) (mark_is v (ltb→lt v (events_of s) h.0)) h.1))
 
   published : Published s p flow marks r
   published =
@@ -155,8 +155,8 @@ module _ (s : List ℕ) (p : ℕ) (flow marks : List ℕ) (r : Judgement) (told 
         no = λ e.
             subst
             (IsSmallest (net_of s) (plan_of s) p)
-            (λ i v. done-is (short_some e) v i)
-            (smallest-known (short_some e));
+            (λ i v. done_is (short_some e) v i)
+            (smallest_known (short_some e));
       }
 
 check_passes : (s : List ℕ) (p : ℕ) (row : List ℕ) (r : Checked) → saysChecked r ≡ check_says s p row → (flow_fault s p row).number ≡ 0

@@ -57,13 +57,13 @@ module _ {n : ℕ} {pred : List ℕ} {r m : Rows} {u w v k : ℕ} (f : Flowing n
           lacks = omega (arith, lackedBack, lacked);
         };
         same = omega (arith, lackedBack, lacked);
-        freed = λ _. freed-now;
+        freed = λ _. freed_now;
         shares = λ b. omega (arith, back.covered.less b, d.covered.less b);
         others = λ a b l ne t. d.raised.kept a b l (⊎_elim (λ y. y) (λ e. absurd (ne e.1)) (back.raised.added a b l t));
       }
     where
-      freed-now : 0 < get_or r'.free v 0
-      freed-now =
+      freed_now : 0 < get_or r'.free v 0
+      freed_now =
           ⊎_elim
           (λ t.
           omega (arith, back.spent.less v, d.spent.less v, on_yes (eqb v v) k (yes_eqb {a = v} {b = v} refl), on_le (eqb u v) k, ap (λ (z : ℕ). get_or r.free z 0) (eqb→eq u v t), most))

@@ -35,23 +35,23 @@ module _ {n : ℕ} {pred queue origin via : List ℕ} {r : Rows} {u : ℕ} {row 
 
   -- at the place by way of which u was met, a taker that lacks nothing
   module _ (at : ℕ) (here : at ≡ via ! u) (none : get_or r.share (queue ! at) 0 ≡ 0) where
-    fed-there : FedBy r.fed (takers_of row queue origin tail) (givers_of met via) at
-    fed-there = ⊎_elim (λ l. absurd (omega arith)) (λ f. f) (h.1.reason at (omega arith))
+    fed_there : FedBy r.fed (takers_of row queue origin tail) (givers_of met via) at
+    fed_there = ⊎_elim (λ l. absurd (omega arith)) (λ f. f) (h.1.reason at (omega arith))
 
-    pub has-next : NextGiver n origin via r.fed at (queue ! at) (origin ! at)
-    has-next =
-        record { here = refl; names = h.0.givers (origin ! at) fed-there.giver; earlier = fed-there.earlier; feeds = fed-there.feeds }
+    pub has_next : NextGiver n origin via r.fed at (queue ! at) (origin ! at)
+    has_next =
+        record { here = refl; names = h.0.givers (origin ! at) fed_there.giver; earlier = fed_there.earlier; feeds = fed_there.feeds }
 
     -- after an exchange there, the origin is ready
-    origin-ready : (r' : Rows) (k : ℕ) → Flowing n pred r → Exchanged n pred r r' u (queue ! at) (origin ! at) k
+    origin_ready : (r' : Rows) (k : ℕ) → Flowing n pred r → Exchanged n pred r r' u (queue ! at) (origin ! at) k
         → IsReady n pred (trail_rows queue origin via) r' (origin ! at) row tail met
     unfolding t g fed_by
-    origin-ready r' k f x =
+    origin_ready r' k f x =
         let w : ℕ = queue ! at in
         let v : ℕ = origin ! at in
-        let o = fed-there in
+        let o = fed_there in
         let placed : at < tail = omega (arith, way.place) in
-        let full = f.exact.flows v w (omega (arith, has-next.names, f.events)) (omega (arith, h.0.takers at placed, f.events)) o.feeds in
+        let full = f.exact.flows v w (omega (arith, has_next.names, f.events)) (omega (arith, h.0.takers at placed, f.events)) o.feeds in
         let some : 0 < k = omega (arith, x.most, h.1.free, full, on_yes (marked r.fed v w) (get_or r.amount (v * 256 + w) 0) o.feeds) in (
           h.0,
           record {
@@ -68,10 +68,10 @@ module _ {n : ℕ} {pred queue origin via : List ℕ} {r : Rows} {u : ℕ} {row 
           },
         )
 
-    pub next-ready : (v : ℕ) → v ≡ origin ! at → (r' : Rows) (k : ℕ) → Flowing n pred r → Exchanged n pred r r' u (queue ! at) v k
+    pub next_ready : (v : ℕ) → v ≡ origin ! at → (r' : Rows) (k : ℕ) → Flowing n pred r → Exchanged n pred r r' u (queue ! at) v k
         → IsReady n pred (trail_rows queue origin via) r' v row tail met
-    next-ready v e r' k f =
-        subst (λ (z : ℕ). Exchanged n pred r r' u (queue ! at) z k → IsReady n pred (trail_rows queue origin via) r' z row tail met) (sym e) (origin-ready r' k f)
+    next_ready v e r' k f =
+        subst (λ (z : ℕ). Exchanged n pred r r' u (queue ! at) z k → IsReady n pred (trail_rows queue origin via) r' z row tail met) (sym e) (origin_ready r' k f)
 
 -- where the giver at hand isn't ready, the first one wasn't
 pub never_ready : (n : ℕ) (pred queue origin via : List ℕ) (r r' : Rows) (u v : ℕ) → ReadyOn n pred (trail_rows queue origin via) r r' u v

@@ -44,11 +44,11 @@ module _ {n : ℕ} {S : Set} {queue : List ℕ} {tail : ℕ} (q : Queued n S que
   queued_le = omega (arith, q.counted, count_le n S)
 
   module _ (x : ℕ) (below : x < n) (fresh : T (S x) → ⊥) where
-    pub queued-room : tail < n
-    queued-room = omega (arith, q.counted, count_room n x S below fresh)
+    pub queued_room : tail < n
+    queued_room = omega (arith, q.counted, count_room n x S below fresh)
 
-    pub queued-more : {next : List ℕ} → Stored queue next tail x → Queued n (insert x S) next (tail + 1)
-    queued-more {next} put =
+    pub queued_more : {next : List ℕ} → Stored queue next tail x → Queued n (insert x S) next (tail + 1)
+    queued_more {next} put =
         record {
           listed = λ i h.
               below_next

@@ -18,7 +18,7 @@ use Rattle.sheet.specs.Table.{pairs_of}
 use Rattle.sheet.specs.Items.{earlier_at, later_at, plan_of}
 use Rattle.sheet.specs.Faultless.{Faultless}
 use Rattle.order.specs.Rows.{OrderRows}
-use Rattle.order.specs.Laws.{skeleton-marked}
+use Rattle.order.specs.Laws.{skeleton_marked}
 use Rattle.calls.specs.FlowRow.{flow_of}
 use Rattle.flow_sums.specs.Sums.{SumRaised, PairSums}
 use Rattle.flow_sums.proofs.Adding.{pairs_start, pairs_more}
@@ -56,11 +56,11 @@ module _ {s : List ℕ} (known : Faultless s) (i n : ℕ) {a b : ℕ} (count : n
     at_pair =
         told
         ∙ ap₂ (λ (y z : ℕ). not (meeting succ y pred z) || eqb (flow_of row i) 0) at_a at_b
-        ∙ ap (λ (y : Bool). y || eqb (flow_of row i) 0) (skeleton-marked s known succ pred rows i one)
+        ∙ ap (λ (y : Bool). y || eqb (flow_of row i) 0) (skeleton_marked s known succ pred rows i one)
 
-    pub pair-broken : not r ≡ true → false ≡ rule4 (plan_of s) (flow_of row)
+    pub pair_broken : not r ≡ true → false ≡ rule4 (plan_of s) (flow_of row)
     unfolding rule4
-    pair-broken away = all_broken n _ (rule4_at (plan_of s) (flow_of row)) i count l (sym at_pair ∙ not-true _ away)
+    pair_broken away = all_broken n _ (rule4_at (plan_of s) (flow_of row)) i count l (sym at_pair ∙ not-true _ away)
 
     pub pair_more : {into out into' out' : List ℕ} → not r ≡ false → Added s row i into out → SumRaised out out' a (flow_of row i)
         → SumRaised into into' b (flow_of row i) → Added s row (i + 1) into' out'

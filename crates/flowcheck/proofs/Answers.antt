@@ -68,8 +68,8 @@ module _ (s : List ℕ) (p : ℕ) (row : List ℕ) where
         unfolding check_says
         said = said_answer (flow_fault s p row) _ none ∙ ap answer (sym judged)
 
-        pub yes-told : b ≡ true → says Valid ≡ check_says s p row
-        yes-told e = sym (said ∙ ap answer e)
+        pub yes_told : b ≡ true → says Valid ≡ check_says s p row
+        yes_told e = sym (said ∙ ap answer e)
 
-        pub no-told : b ≡ false → says Invalid ≡ check_says s p row
-        no-told e = sym (said ∙ ap answer e)
+        pub no_told : b ≡ false → says Invalid ≡ check_says s p row
+        no_told e = sym (said ∙ ap answer e)

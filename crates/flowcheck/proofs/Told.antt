@@ -74,11 +74,11 @@ module _ (s : List ℕ) (p : ℕ) (row : List ℕ) {r4 : Bool} (is4 : r4 ≡ rul
     unfolding rule3 shares shares_of
     is3 = told ∙ ap₂ leb (sum ∙ ap₂ (shares_of row) e f) read
 
-    pub breaks-3 : not r3 ≡ true → false ≡ valid (net_of s) (plan_of s) p (flow_of row)
+    pub breaks_3 : not r3 ≡ true → false ≡ valid (net_of s) (plan_of s) p (flow_of row)
     unfolding valid
-    breaks-3 away = simp (sym is3 ∙ not-true _ away, and-false)
+    breaks_3 away = simp (sym is3 ∙ not-true _ away, and-false)
 
-    pub rest-decides : {r : Bool} → not r4 ≡ false → not r3 ≡ false → r ≡ balanced (net_of s) (plan_of s) p (flow_of row)
+    pub rest_decides : {r : Bool} → not r4 ≡ false → not r3 ≡ false → r ≡ balanced (net_of s) (plan_of s) p (flow_of row)
         → r ≡ valid (net_of s) (plan_of s) p (flow_of row)
     unfolding valid
-    rest-decides kept4 kept3 rest = rest ∙ simp (sym is4 ∙ not-false _ kept4, sym is3 ∙ not-false _ kept3, and-true)
+    rest_decides kept4 kept3 rest = rest ∙ simp (sym is4 ∙ not-false _ kept4, sym is3 ∙ not-false _ kept3, and-true)

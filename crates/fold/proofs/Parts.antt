@@ -37,20 +37,20 @@ module _ (m : ℕ) (row first : List ℕ) (long : m ≤ length row) (kept : leng
   lent_long n h = rw lent (omega (arith, length-drop m row))
 
   module _ (next : List ℕ) where
-    rest-none : drop (length (between m row first) - m) (drop m (between m row first)) ≡ []
-    rest-none =
+    rest_none : drop (length (between m row first) - m) (drop m (between m row first)) ≡ []
+    rest_none =
         ap (drop (length (between m row first) - m)) (drop_at first (drop m row) m size)
         ∙ drop_of_length-le (drop m row) {i = length (between m row first) - m} (omega (arith, left))
 
     back : whole m row first next ≡ first ++ next
-    back = ap₂ ◌++◌ (take_at first (drop m row) m size) (ap (λ (r : List ℕ). next ++ r) rest-none ∙ append-nil next)
+    back = ap₂ ◌++◌ (take_at first (drop m row) m size) (ap (λ (r : List ℕ). next ++ r) rest_none ∙ append-nil next)
 
     later : (v : ℕ) → get_or (first ++ next) (m + v) 0 ≡ get_or next v 0
     later v = ap (λ (n : ℕ). get_or (first ++ next) (n + v) 0) (sym size) ∙ get_or-append-add first next v 0
 
-    pub parts-shares : (share : List ℕ) (n : ℕ) → Filled (numbers_of share) n (lent_part m row first) next
+    pub parts_shares : (share : List ℕ) (n : ℕ) → Filled (numbers_of share) n (lent_part m row first) next
         → SharesFrom m row (whole m row first next) share n
-    parts-shares share n written =
+    parts_shares share n written =
         let w : Filled (numbers_of share) n (drop m row) next = rw lent at written in
         rw
         back
@@ -64,8 +64,8 @@ module _ (m : ℕ) (row first : List ℕ) (long : m ≤ length row) (kept : leng
               ∙ ap (λ (n : ℕ). get_or row n 0) at;
         })
 
-    pub parts-folded : (P : Plan) (y : ℕ → ℕ → ℕ) → P.pairs ≡ m → Folded P y (numbers_of first) → Folded P y (numbers_of (whole m row first next))
-    parts-folded P y e f =
+    pub parts_folded : (P : Plan) (y : ℕ → ℕ → ℕ) → P.pairs ≡ m → Folded P y (numbers_of first) → Folded P y (numbers_of (whole m row first next))
+    parts_folded P y e f =
         rw
         back
         (folded_row P y (numbers_of first) (numbers_of (first ++ next)) f (λ i l. sym (get_or-append first next 0 i (omega (arith, size)))))

@@ -15,7 +15,7 @@ use Rattle.marks.specs.Marks.{marked}
 use Rattle.tokenflow.specs.Rows.{fed_by}
 use Rattle.fold.specs.Folded.{Folded}
 use Rattle.fold.specs.Carried.{Carried}
-use Rattle.fold.specs.FoldedTo.{turn_of, FoldedTo, to_none, to_skip, to_giver, to_all, to_room, to-more}
+use Rattle.fold.specs.FoldedTo.{turn_of, FoldedTo, to_none, to_skip, to_giver, to_all, to_room, to_more}
 use Rattle.fold.specs.Feeding.{Foldable, Turned}
 use Rattle.fold.specs.Walkable.{Walkable}
 use Rattle.fold.specs.Written.{numbers_of, Zeros}
@@ -58,7 +58,7 @@ module _ {P : Plan} {n : ℕ} {succ skel index amount fed : List ℕ} (g : Folda
       more : (row' : List ℕ) → Carried P (numbers_of row) (numbers_of row') u w (get_or amount (turn_of u w) 0)
           → FoldedTo P (fed_by amount fed) (turn_of u w + 1) (numbers_of row')
       more row' c =
-          to-more
+          to_more
           P
           g.way.few
           (fed_by amount fed)
@@ -86,21 +86,21 @@ module _ {n : ℕ} {succ skel index amount fed : List ℕ} where
 
   module _ {s : ℕ} {row₀ row : List ℕ} (z : Zeros row₀) (a : Turned n succ skel index amount fed 0 row₀ s row) where
     -- some turns, from a row of zeros
-    pub turns-some : ((P : Plan) × Foldable P n succ skel index amount fed × (P.pairs ≡ length row₀))
+    pub turns_some : ((P : Plan) × Foldable P n succ skel index amount fed × (P.pairs ≡ length row₀))
         → (P : Plan) × Foldable P n succ skel index amount fed × (P.pairs ≡ length row) × FoldedTo P (fed_by amount fed) s (numbers_of row)
-    turns-some some =
+    turns_some some =
         let g = some.1 in
         (some.0, g, omega (arith, some.2, a.size), a.folded some.0 g some.2 (start g row₀ z))
 
     -- the turns of all givers
-    pub turns-all : s ≡ n * most_events → (P : Plan) → Foldable P n succ skel index amount fed → P.pairs ≡ length row₀
+    pub turns_all : s ≡ n * most_events → (P : Plan) → Foldable P n succ skel index amount fed → P.pairs ≡ length row₀
         → Folded P (fed_by amount fed) (numbers_of row)
-    turns-all e P g m = all g row (rw e at (a.folded P g m (start g row₀ z)))
+    turns_all e P g m = all g row (rw e at (a.folded P g m (start g row₀ z)))
 
   module _ (u w : ℕ) {t : ℕ} {row₀ row : List ℕ} (a : Turned n succ skel index amount fed t row₀ (turn_of u w) row) where
     -- every taker of u has had its turn
-    pub turns-giver : w ≡ n → Turned n succ skel index amount fed t row₀ ((u + 1) * most_events) row
-    turns-giver e =
+    pub turns_giver : w ≡ n → Turned n succ skel index amount fed t row₀ ((u + 1) * most_events) row
+    turns_giver e =
         record { size = a.size; folded = λ P g m f. giver g row u (rw (ap (turn_of u) e) at (a.folded P g m f)) }
 
     module _ (lu : u < n) (lw : w < n) where
@@ -108,8 +108,8 @@ module _ {n : ℕ} {succ skel index amount fed : List ℕ} where
       next = omega arith
 
       -- u gives nothing to w
-      pub turn-skip : (row' : List ℕ) → marked fed u w ≡ false → row' ≡ row → Turned n succ skel index amount fed t row₀ (turn_of u (w + 1)) row'
-      turn-skip row' away e =
+      pub turn_skip : (row' : List ℕ) → marked fed u w ≡ false → row' ≡ row → Turned n succ skel index amount fed t row₀ (turn_of u (w + 1)) row'
+      turn_skip row' away e =
           rw
           e
           (record {
@@ -119,9 +119,9 @@ module _ {n : ℕ} {succ skel index amount fed : List ℕ} where
 
       module _ (k : ℕ) (feeds : marked fed u w ≡ true) (is : k ≡ get_or amount (turn_of u w) 0) where
         -- its tokens can be carried
-        pub turn-trace : ((P : Plan) × Foldable P n succ skel index amount fed × (P.pairs ≡ length row₀) × FoldedTo P (fed_by amount fed) t (numbers_of row₀))
+        pub turn_trace : ((P : Plan) × Foldable P n succ skel index amount fed × (P.pairs ≡ length row₀) × FoldedTo P (fed_by amount fed) t (numbers_of row₀))
             → ((P : Plan) × Walkable P succ skel index × Before P u w × (P.pairs ≡ length row)) × ((i : ℕ) → i < length row → get_or row i 0 + k < 4294967296)
-        turn-trace some =
+        turn_trace some =
             let g = some.1 in
             let f = a.folded some.0 g some.2 some.3 in (
               (some.0, g.way, ordered g row u w lu lw f feeds, omega (arith, some.2, a.size)),

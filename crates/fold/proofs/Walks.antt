@@ -16,7 +16,7 @@ use Rattle.finite.specs.Search.{fails}
 use Rattle.finite.specs.Sum.{on, sum, sum_strict, on_mono, on_yes, on_no}
 use Rattle.plan.specs.Net.{Plan}
 use Rattle.plan.specs.Order.{Before, pair, chain}
-use Rattle.theory.specs.Skeleton.{before-earlier, before-later, last-link}
+use Rattle.theory.specs.Skeleton.{before_earlier, before_later, last_link}
 use Rattle.marks.specs.Marks.{marked}
 use Rattle.last_mark.specs.Found.{Both}
 use Rattle.fold.specs.Carried.{Carried, carried_none, carried_more}
@@ -28,39 +28,39 @@ use Rattle.fold.specs.Written.{numbers_of, raised_by}
 module _ {P : Plan} {succ skel index : List ℕ} (way : Walkable P succ skel index) where
   -- both ends are events
   pub ends : (u v : ℕ) → Before P u v → (u < most_events) × (v < most_events)
-  ends u v b = (omega (arith, before-earlier P way.sound b, way.few), omega (arith, before-later P way.sound b, way.few))
+  ends u v b = (omega (arith, before_earlier P way.sound b, way.few), omega (arith, before_later P way.sound b, way.few))
 
   link_before : (a b i : ℕ) → IsLink P P.pairs a b i → Before P a b
   link_before a b i k = subst₂ (Before P) k.starts k.ends (pair i k.named)
 
   module _ {u cur : ℕ} (b : Before P u cur) where
     -- u itself is one pair back
-    pub step-here : marked skel cur u ≡ true → StepBack P u cur u
-    step-here t =
+    pub step_here : marked skel cur u ≡ true → StepBack P u cur u
+    step_here t =
         let e = ends u cur b in
         record { link = way.linked.links u cur e.0 e.1 (passes (marked skel cur u) t); onward = inl refl }
 
     -- or some event after u is
-    pub step-there : (v : ℕ) → Both skel cur succ u v → StepBack P u cur v
-    step-there v both =
+    pub step_there : (v : ℕ) → Both skel cur succ u v → StepBack P u cur v
+    step_there v both =
         let e = ends u cur b in
         let event = way.after.only u v both.below both.second in
         record {
           link = way.linked.links v cur both.below e.1 both.first;
-          onward = inr ((way.after.marks u v (before-earlier P way.sound b) event).0 both.second);
+          onward = inr ((way.after.marks u v (before_earlier P way.sound b) event).0 both.second);
         }
 
     -- and one of the two is so
-    pub step-exists : marked skel cur u ≡ false → ((v : ℕ) → Both skel cur succ u v → ⊥) → ⊥
-    step-exists away none =
-        let k = last-link P way.sound b in
+    pub step_exists : marked skel cur u ≡ false → ((v : ℕ) → Both skel cur succ u v → ⊥) → ⊥
+    step_exists away none =
+        let k = last_link P way.sound b in
         let i = k.link.index in
         let m = subst (λ (x : ℕ). T (marked skel x (P.earlier i))) k.link.ends (way.linked.marks i k.link.named k.bare) in
         ⊎_elim
         (λ e. fails (marked skel cur u) away (subst (λ (x : ℕ). T (marked skel cur x)) e m))
         (λ c.
-        let l = before-later P way.sound c in
-        let after = (way.after.marks u (P.earlier i) (before-earlier P way.sound c) l).1 c in
+        let l = before_later P way.sound c in
+        let after = (way.after.marks u (P.earlier i) (before_earlier P way.sound c) l).1 c in
         none (P.earlier i) (record { below = omega (arith, l, way.few); first = m; second = after }))
         k.link.starts
 
@@ -77,18 +77,18 @@ module _ {P : Plan} {succ skel index : List ℕ} (way : Walkable P succ skel ind
   is_on_way x z hx hz t =
       let both = and_yes (marked succ u z) (eqb z x || marked succ z x) t in
       let l = way.after.only u z hz both.0 in (
-        (way.after.marks u z (before-earlier P way.sound b) l).0 both.0,
+        (way.after.marks u z (before_earlier P way.sound b) l).0 both.0,
         ⊎_elim (λ e. inl (eqb→eq z x e)) (λ m. inr ((way.after.marks z x l hx).0 m)) (or_yes (eqb z x) (marked succ z x) both.1),
       )
 
   yes_on_way : (x z : ℕ) → x < P.events → Before P u z → (z ≡ x) ⊎ Before P z x → T (on_way x z)
   unfolding on_way
   yes_on_way x z hx c h =
-      let l = before-later P way.sound c in
+      let l = before_later P way.sound c in
       yes_and
       (marked succ u z)
       (eqb z x || marked succ z x)
-      ((way.after.marks u z (before-earlier P way.sound c) l).1 c)
+      ((way.after.marks u z (before_earlier P way.sound c) l).1 c)
       (⊎_elim
       (λ e. yes_or_left (eqb z x) (marked succ z x) (yes_eqb e))
       (λ d. yes_or_right (eqb z x) (marked succ z x) ((way.after.marks z x l hx).1 d))
@@ -118,10 +118,10 @@ module _ {P : Plan} {succ skel index : List ℕ} (way : Walkable P succ skel ind
       nearer = ⊎_elim (λ e. subst (λ (y : ℕ). Before P y cur) (sym e) back) (λ d. chain d back)
 
       late : cur < P.events
-      late = before-later P way.sound b
+      late = before_later P way.sound b
 
       early : v < P.events
-      early = before-earlier P way.sound back
+      early = before_earlier P way.sound back
 
 -- The walk from w back toward u has come to cur.
 pub record Walk (P : Plan) (row₀ row : List ℕ) (u cur w k : ℕ) : Type 0 where
@@ -143,13 +143,13 @@ module _ {succ skel index row₀ row : List ℕ} {u cur w k : ℕ} (g : Walking 
       subst (λ (x : ℕ). Carried P (numbers_of row₀) (numbers_of row) x w k) e (g.walk P way b).carried
 
   module _ (apart : cur ≡ u → ⊥) where
-    on-way : (P : Plan) → Walkable P succ skel index → Before P u w → Before P u cur
-    on-way P way b = ⊎_elim (λ e. absurd (apart e)) (λ d. d) (g.walk P way b).onward
+    on_way_lem : (P : Plan) → Walkable P succ skel index → Before P u w → Before P u cur
+    on_way_lem P way b = ⊎_elim (λ e. absurd (apart e)) (λ d. d) (g.walk P way b).onward
 
     -- Some plan has the rows.
     module _ (some : (P : Plan) × Walkable P succ skel index × Before P u w × (P.pairs ≡ length row₀)) where
       here : Before some.0 u cur
-      here = on-way some.0 some.1 some.2
+      here = on_way_lem some.0 some.1 some.2
 
       pub walk_step : (P : Plan) × (at : List ℕ) × Walkable P succ skel at × Before P u cur
       walk_step = (some.0, index, some.1, here)
@@ -158,27 +158,27 @@ module _ {succ skel index row₀ row : List ℕ} {u cur w k : ℕ} (g : Walking 
         step : StepBack some.0 u cur v
         step = back some.0 index some.1 here
 
-        pub walk-fewer : steps succ u v < steps succ u cur
-        walk-fewer = fewer some.1 here step
+        pub walk_fewer : steps succ u v < steps succ u cur
+        walk_fewer = fewer some.1 here step
 
         -- some plan has the pair,
-        pub walk-link : (P : Plan) × Lists P P.pairs index × (i : ℕ) × IsLink P P.pairs v cur i
-        walk-link = (some.0, some.1.linked.lists, step.link.0, step.link.1)
+        pub walk_link : (P : Plan) × Lists P P.pairs index × (i : ℕ) × IsLink P P.pairs v cur i
+        walk_link = (some.0, some.1.linked.lists, step.link.0, step.link.1)
 
         module _ {i : ℕ} (found : (P : Plan) → Lists P P.pairs index → IsLink P P.pairs v cur i) where
           at-link : IsLink some.0 some.0.pairs v cur i
           at-link = found some.0 some.1.linked.lists
 
           -- which has a number in the row,
-          pub walk-named : i < length row
-          walk-named = omega (arith, at-link.named, some.3, g.size)
+          pub walk_named : i < length row
+          walk_named = omega (arith, at-link.named, some.3, g.size)
 
           -- has not been on the way, and so has room
-          pub walk-room : ((i : ℕ) → i < length row₀ → get_or row₀ i 0 + k < 4294967296) → get_or row i 0 + k < 4294967296
-          walk-room room =
+          pub walk_room : ((i : ℕ) → i < length row₀ → get_or row₀ i 0 + k < 4294967296) → get_or row i 0 + k < 4294967296
+          walk_room room =
               omega (
                 arith,
-                room i (omega (arith, walk-named, g.size)),
+                room i (omega (arith, walk_named, g.size)),
                 (g.walk some.0 some.1 some.2).carried.fresh i at-link.named (inl at-link.ends),
               )
 
@@ -195,7 +195,7 @@ module _ {succ skel index row₀ row : List ℕ} {u cur w k : ℕ} (g : Walking 
                           subst
                           (λ (x : ℕ). Carried P (numbers_of row₀) (numbers_of (raised_by row i k)) x w k)
                           link.starts
-                          (carried_more P way.sound _ _ _ cur w k _ link.named link.bare link.ends (λ j l. raised_at row _ k walk-named j) (g.walk P way b).carried);
-                      onward = (back P index way (on-way P way b)).onward;
+                          (carried_more P way.sound _ _ _ cur w k _ link.named link.bare link.ends (λ j l. raised_at row _ k walk_named j) (g.walk P way b).carried);
+                      onward = (back P index way (on_way_lem P way b)).onward;
                     };
               })

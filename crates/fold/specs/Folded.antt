@@ -61,9 +61,9 @@ module _ (N : Net) (P : Plan) (p : ℕ) (y : ℕ → ℕ → ℕ) (free share : 
         }
 
     -- Beside the shares of its takers a folded tokenflow is a valid row, if the opening count covers them.
-    pub folded-valid : sum P.events share ≤ N.opening p → T (valid N P p x)
+    pub folded_valid : sum P.events share ≤ N.opening p → T (valid N P p x)
     unfolding valid rule3 rule4 shares
-    folded-valid covered =
+    folded_valid covered =
         let r = passes_rules N P p x passes in
         yes_and
         (rule1 N P p x && rule2 N P p x && rule3 N P p x)

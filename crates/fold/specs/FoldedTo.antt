@@ -171,8 +171,8 @@ module _ (P : Plan) (few : P.events ≤ most_events) (y : ℕ → ℕ → ℕ) (
     to_room i l = omega (arith, f.most i l, total_more y u w (omega arith) P.events few lu lw, up_to_most P.events y (turn_of u w + 1))
 
     -- carrying them is the turn of u and w
-    pub to-more : (z : Flow) → (u ≡ w → ⊥) → Carried P x z u w (y u w) → FoldedTo P y (turn_of u w + 1) z
-    to-more z apart c =
+    pub to_more : (z : Flow) → (u ≡ w → ⊥) → Carried P x z u w (y u w) → FoldedTo P y (turn_of u w + 1) z
+    to_more z apart c =
         record {
           folded =
               carried_folds

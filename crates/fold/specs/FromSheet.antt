@@ -50,11 +50,11 @@ sheet_foldable s known p n lp e succ pred skel index rows linked r free share f 
     record {
       events = sym e;
       way = walkable s known succ pred skel index rows linked;
-      feeds = flowing_feeds (plan_of s) n succ pred r e rows f gives-few;
+      feeds = flowing_feeds (plan_of s) n succ pred r e rows f gives_few;
     }
   where
-    gives-few : (u : ℕ) → u < n → sum n (λ w. fed_by r.amount r.fed u w) ≤ 1000
-    gives-few u l =
+    gives_few : (u : ℕ) → u < n → sum n (λ w. fed_by r.amount r.fed u w) ≤ 1000
+    gives_few u l =
         subst
         (λ (k : ℕ). sum k (λ w. fed_by r.amount r.fed u w) ≤ 1000)
         (sym e)

@@ -4,7 +4,7 @@ use Rattle.finite.specs.Sum.{sum}
 use Rattle.plan.specs.Net.{Net, Plan}
 use Rattle.plan.specs.Flow.{valid}
 use Rattle.theory.specs.Tokenflow.{Tokenflow}
-use Rattle.fold.specs.Folded.{Folded, folded-valid}
+use Rattle.fold.specs.Folded.{Folded, folded_valid}
 
 -- the number at i of a row
 abbrev pub numbers_of : List ℕ → ℕ → ℕ
@@ -29,4 +29,4 @@ pub written_valid : (N : Net) (P : Plan) (p : ℕ) (y : ℕ → ℕ → ℕ) (fr
     → Tokenflow N P p y free (numbers_of share) → Folded P y (numbers_of row') → SharesFrom P.pairs row row' share P.events
     → sum P.events (numbers_of share) ≤ N.opening p → T (valid N P p (numbers_of row'))
 written_valid N P p y free share row row' t f w covered =
-    folded-valid N P p y free (numbers_of share) t (numbers_of row') f w.shares covered
+    folded_valid N P p y free (numbers_of share) t (numbers_of row') f w.shares covered

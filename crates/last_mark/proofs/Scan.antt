@@ -76,21 +76,21 @@ done P k e g v = g.none v (omega arith)
 -- Word k shows none of the numbers, or one: those in both rows, and those in the first only.
 module _ (a : List ℕ) (i : ℕ) (b : List ℕ) (j k : ℕ) (h : k < 8) (x : ℕ) where
   module _ (is : x ≡ bit_and (get_or a (i * 8 + k) 0) (get_or b (j * 8 + k) 0)) where
-    shown-both : Shows (Both a i b j) k x
-    shown-both = rw is (shows_both a i b j k h)
+    shown_both : Shows (Both a i b j) k x
+    shown_both = rw is (shows_both a i b j k h)
 
-    pub more-both : (m : ℕ) → m ≡ k + 1 → x ≡ 0 → Passed (Both a i b j) m → Passed (Both a i b j) k
-    more-both m e = more (Both a i b j) m k x e shown-both
+    pub more_both : (m : ℕ) → m ≡ k + 1 → x ≡ 0 → Passed (Both a i b j) m → Passed (Both a i b j) k
+    more_both m e = more (Both a i b j) m k x e shown_both
 
-    pub found-both : (r : ℕ) → SetBit x r → Both a i b j (k * 32 + r)
-    found-both r t = shown-both.has r t.within t.set
+    pub found_both : (r : ℕ) → SetBit x r → Both a i b j (k * 32 + r)
+    found_both r t = shown_both.has r t.within t.set
 
   module _ (fits : (q : ℕ) → get_or b q 0 < 2 ^ 32) (is : x ≡ bit_and (get_or a (i * 8 + k) 0) ((2 ^ 32 - 1) - get_or b (j * 8 + k) 0)) where
-    shown-only : Shows (Only a i b j) k x
-    shown-only = rw is (shows_only a i b j k h (fits _))
+    shown_only : Shows (Only a i b j) k x
+    shown_only = rw is (shows_only a i b j k h (fits _))
 
-    pub more-only : (m : ℕ) → m ≡ k + 1 → x ≡ 0 → Passed (Only a i b j) m → Passed (Only a i b j) k
-    more-only m e = more (Only a i b j) m k x e shown-only
+    pub more_only : (m : ℕ) → m ≡ k + 1 → x ≡ 0 → Passed (Only a i b j) m → Passed (Only a i b j) k
+    more_only m e = more (Only a i b j) m k x e shown_only
 
-    pub found-only : (r : ℕ) → SetBit x r → Only a i b j (k * 32 + r)
-    found-only r t = shown-only.has r t.within t.set
+    pub found_only : (r : ℕ) → SetBit x r → Only a i b j (k * 32 + r)
+    found_only r t = shown_only.has r t.within t.set

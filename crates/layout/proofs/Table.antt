@@ -124,9 +124,9 @@ module _ (s : List ℕ) where
           ∙ parts (late s) (early s) _
           ∙ ap (λ (g : Fault). or_else g (or_else (tell 4 (plain (wrong_end s))) no_fault)) (sym is)
 
-      pub fault-starts : ¬ (f.number ≡ 0) → Told f
-      fault-starts there = sym (rest ∙ else_first f _ there)
+      pub fault_starts : ¬ (f.number ≡ 0) → Told f
+      fault_starts there = sym (rest ∙ else_first f _ there)
 
       -- what is told of the end
-      pub fault-end : f.number ≡ 0 → (g : Fault) → g ≡ tell 4 (plain (wrong_end s)) → Told g
-      fault-end right g e = e ∙ sym (rest ∙ else_next f _ right ∙ last_one (wrong_end s))
+      pub fault_end : f.number ≡ 0 → (g : Fault) → g ≡ tell 4 (plain (wrong_end s)) → Told g
+      fault_end right g e = e ∙ sym (rest ∙ else_next f _ right ∙ last_one (wrong_end s))

@@ -12,9 +12,9 @@ use Rattle.ids.specs.Limits.{most_events}
 use Rattle.marks.specs.Marks.{marked}
 use Rattle.plan.specs.Net.{Net, Plan}
 use Rattle.plan.specs.Prefix.{least_opening, missing, smallest}
-use Rattle.theory.specs.Skeleton.{before-earlier}
+use Rattle.theory.specs.Skeleton.{before_earlier}
 use Rattle.theory.specs.Missing.{missing_opening}
-use Rattle.theory.specs.Tokenflow.{Tokenflow, Settled, least_within, settled-least, settled-smallest}
+use Rattle.theory.specs.Tokenflow.{Tokenflow, Settled, least_within, settled_least, settled_smallest}
 use Rattle.tokenflow.specs.Rows.{fed_by, Rows, rows}
 use Rattle.tokenflow.specs.Flowing.{Flowing, Kept, given_in, taken_in, lacking}
 use Rattle.drawing.specs.Moves.{Moved}
@@ -118,7 +118,7 @@ module _ (N : Net) (P : Plan) (p n : ℕ) (pred : List ℕ) (r₀ r : Rows) (at 
           givers = λ u t. (d.givers_named u t, d.spent u t);
           closed = record {
             roots = d.exhausted.roots;
-            back = λ u w l t b. let k = before-earlier P at.sound b in d.exhausted.back w u l k t ((at.before.marks w u l k).1 b);
+            back = λ u w l t b. let k = before_earlier P at.sound b in d.exhausted.back w u l k t ((at.before.marks w u l k).1 b);
             onward = λ u w lu lw t h. d.exhausted.onward u w lu lw t (is_fed u w h);
           };
           generated = λ W E c u t.
@@ -159,7 +159,7 @@ module _ (N : Net) (P : Plan) (p n : ℕ) (pred : List ℕ) (r₀ r : Rows) (at 
         flows = flows;
         flow = rows_flow;
         least = omega (arith, within, total);
-        exact = λ above. settled-least N P p at.sound y (λ u. get_or r.free u 0) (λ w. get_or r.share w 0) rows_flow (members last.0) (members givers) s ∙ sym total;
-        set = λ above short. settled-smallest N P p at.sound y (λ u. get_or r.free u 0) (λ w. get_or r.share w 0) rows_flow (members last.0) (members givers) s short;
+        exact = λ above. settled_least N P p at.sound y (λ u. get_or r.free u 0) (λ w. get_or r.share w 0) rows_flow (members last.0) (members givers) s ∙ sym total;
+        set = λ above short. settled_smallest N P p at.sound y (λ u. get_or r.free u 0) (λ w. get_or r.share w 0) rows_flow (members last.0) (members givers) s short;
       })
       ended

@@ -34,14 +34,14 @@ module _ (s : List ℕ) (l : Layout) (known : LaidBy s l) where
     unfolding item item_length
     found = rw (is, known.1.transitions_at_lem, known.1.places)
 
-    pub transition-there : t < l.transitions → at + 4 * l.places ≤ length s
-    transition-there h =
+    pub transition_there : t < l.transitions → at + 4 * l.places ≤ length s
+    transition_there h =
         omega (arith, transition_within s known.0 t (omega arith), ap (λ (n : ℕ). 4 * n * t) known.1.places)
 
-    pub takes-is : (p i : ℕ) → i ≡ at + 2 * p → number 2 s i ≡ takes_at s t p
+    pub takes_is : (p i : ℕ) → i ≡ at + 2 * p → number 2 s i ≡ takes_at s t p
     unfolding takes_at
-    takes-is p i there = rw (there, found)
+    takes_is p i there = rw (there, found)
 
-    pub gives-is : (p i : ℕ) → i ≡ at + 2 * (l.places + p) → number 2 s i ≡ gives_at s t p
+    pub gives_is : (p i : ℕ) → i ≡ at + 2 * (l.places + p) → number 2 s i ≡ gives_at s t p
     unfolding gives_at
-    gives-is p i there = rw (there, found, known.1.places)
+    gives_is p i there = rw (there, found, known.1.places)

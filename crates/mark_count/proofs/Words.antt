@@ -59,12 +59,12 @@ module _ (rows : List ℕ) (i : ℕ) where
               ap bits_of read,
               count_ext 32 (bit (get_or rows (i * 8 + k) 0)) (λ t. marked rows i (k * 32 + t)) (λ t h. word_mark rows i k t h),
               sum_parts (k * 32) 32 (λ v. on (marked rows i v) 1),
-              ap (λ (x : ℕ). sum x (λ v. on (marked rows i v) 1)) (suc-blocks k),
+              ap (λ (x : ℕ). sum x (λ v. on (marked rows i v) 1)) (suc_blocks k),
             );
       }
     where
-      suc-blocks : (k : ℕ) → (k + 1) * 32 ≡ k * 32 + 32
-      suc-blocks k = omega arith
+      suc_blocks : (k : ℕ) → (k + 1) * 32 ≡ k * 32 + 32
+      suc_blocks k = omega arith
 
   pub most : (k n : ℕ) → Counted rows i k n → n ≤ k * 32
   most k n so_far = omega (arith, so_far.marks, count_le (k * 32) (marked rows i))

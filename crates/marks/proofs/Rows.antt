@@ -20,7 +20,7 @@ use Rattle.marks.proofs.Bits.{bit_and_not, bit_or_lem, bit_one}
 -- The bits after the word at p is changed by f, where f keeps a bit that meets no x.
 word_change : (f : Bool → Bool → Bool) → ((b : Bool) → f b false ≡ b) → (rows : List ℕ) (p y q k : ℕ) (x : Bool) → p < length rows
     → bit y k ≡ f (bit (get_or rows p 0) k) x → bit (get_or (set rows p y) q 0) k ≡ f (bit (get_or rows q 0) k) (eqb q p && x)
-word_change f keeps rows p y q k x h e = ⊎_elim at-it elsewhere (decide (eqb q p))
+word_change f keeps rows p y q k x h e = ⊎_elim at_it elsewhere (decide (eqb q p))
   where
     After : ℕ → Type 0
     After i = bit (get_or (set rows p y) i 0) k ≡ f (bit (get_or rows i 0) k) (eqb i p && x)
@@ -28,8 +28,8 @@ word_change f keeps rows p y q k x h e = ⊎_elim at-it elsewhere (decide (eqb q
     here : After p
     here = rw (get_or-set_same rows p y 0 h, eq-eqb p p refl) e
 
-    at-it : T (eqb q p) → After q
-    at-it t = subst After (sym (eqb→eq q p t)) here
+    at_it : T (eqb q p) → After q
+    at_it t = subst After (sym (eqb→eq q p t)) here
 
     elsewhere : T (not (eqb q p)) → After q
     elsewhere t =

@@ -23,7 +23,7 @@ use Rattle.sheet.specs.Faults.{fault_of}
 use Rattle.sheet.specs.Items.{net_of, plan_of}
 use Rattle.sheet.specs.Table.{pairs_of}
 use Rattle.sheet.specs.Told.{no_fault}
-use Rattle.writer.specs.WriteBack.{write-back, written_same}
+use Rattle.writer.specs.WriteBack.{write_back, written_same}
 use Rattle.kept_pairs.specs.Clean.{clean_of}
 use Rattle.mending.specs.CleanSheet.{clean_says, clean_bytes, clean_length, clean_before, clean_faultless}
 use Rattle.mending.specs.Mendable.{Mendable, mendable, not_refused, call_clear}
@@ -65,7 +65,7 @@ module _ (s : List ℕ) (bytes : Bytes s) (known : Faultless s) where
       (record { places = refl; transitions = refl; opening = λ p l. refl; takes = λ t p l m. refl; gives = λ t p l m. refl })
       (record { events = refl; labels = λ v l. refl })
       (same_pairs s known)
-      ∙ write-back s known.laid bytes
+      ∙ write_back s known.laid bytes
 
   unchanged_by : Unchanged s
   unchanged_by = record { taken = not_refused s faultless_mendable; same = faultless_same; all_kept = all_kept s known }

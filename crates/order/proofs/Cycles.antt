@@ -67,10 +67,10 @@ module _ (s : List ℕ) (l : Layout) (known : LaidBy s l) (all : no_event s ≡ 
   pub after_within : Within (turned P) succ
   after_within =
       let marks : PairRows (plan_of s) (plan_of s).pairs succ = held.marks in
-      record { only = λ v u h t. (pairs_before (turned P) (turned (plan_of s)) turned-pairs u v).1 ((pairs_within (plan_of s) succ marks).only v u h t) }
+      record { only = λ v u h t. (pairs_before (turned P) (turned (plan_of s)) turned_pairs u v).1 ((pairs_within (plan_of s) succ marks).only v u h t) }
     where
-      turned-pairs : SamePairs (turned P) (turned (plan_of s))
-      turned-pairs = record { pairs = same_pairs.pairs; earlier = same_pairs.later; later = same_pairs.earlier }
+      turned_pairs : SamePairs (turned P) (turned (plan_of s))
+      turned_pairs = record { pairs = same_pairs.pairs; earlier = same_pairs.later; later = same_pairs.earlier }
 
   pub ahead_within : {pred : List ℕ} → Blank pred → Within P pred
   ahead_within e = rw e (blank_within P rows_words)

@@ -14,11 +14,11 @@ module _ (s : List ℕ) (known : Faultless s) where
   named = record { earlier = known.earlier; later = known.later }
 
   module _ (succ pred : List ℕ) (rows : OrderRows (plan_of s) succ pred) where
-    pub after-marked : (u v : ℕ) → u < events_of s → v < events_of s → marked succ u v ≡ before (plan_of s) u v
-    after-marked u v hu hv = says_before (plan_of s) (marked succ u v) u v (rows.after.marks u v hu hv)
+    pub after_marked : (u v : ℕ) → u < events_of s → v < events_of s → marked succ u v ≡ before (plan_of s) u v
+    after_marked u v hu hv = says_before (plan_of s) (marked succ u v) u v (rows.after.marks u v hu hv)
 
-    pub ahead-marked : (u v : ℕ) → u < events_of s → v < events_of s → marked pred v u ≡ before (plan_of s) u v
-    ahead-marked u v hu hv = says_before (plan_of s) (marked pred v u) u v (rows.ahead.marks v u hv hu)
+    pub ahead_marked : (u v : ℕ) → u < events_of s → v < events_of s → marked pred v u ≡ before (plan_of s) u v
+    ahead_marked u v hu hv = says_before (plan_of s) (marked pred v u) u v (rows.ahead.marks v u hv hu)
 
-    pub skeleton-marked : (i : ℕ) → i < pairs_of s → not (meeting succ (earlier_at s i) pred (later_at s i)) ≡ skeleton (plan_of s) i
-    skeleton-marked = skeleton_rows (plan_of s) named succ rows.after pred rows.ahead known.laid.limited.events
+    pub skeleton_marked : (i : ℕ) → i < pairs_of s → not (meeting succ (earlier_at s i) pred (later_at s i)) ≡ skeleton (plan_of s) i
+    skeleton_marked = skeleton_rows (plan_of s) named succ rows.after pred rows.ahead known.laid.limited.events

@@ -7,7 +7,7 @@ use Rattle.plan.specs.Net.{taken_by}
 use Rattle.sheet.specs.Faultless.{Faultless, sound}
 use Rattle.sheet.specs.Items.{net_of, plan_of, label_at}
 use Rattle.sheet.specs.Table.{places_of, events_of}
-use Rattle.theory.specs.Missing.{least-most, missing_opening}
+use Rattle.theory.specs.Missing.{least_most, missing_opening}
 use Rattle.theory.specs.Spare.{spare_most, spare_least}
 use Rattle.place.specs.Place.{missing_at, least_at, spare_at}
 
@@ -17,7 +17,7 @@ module _ (s : List ℕ) (known : Faultless s) (p : ℕ) (l : p < places_of s) wh
   most_least =
       omega (
         arith,
-        least-most (net_of s) (plan_of s) p (sound s known),
+        least_most (net_of s) (plan_of s) p (sound s known),
         sum_most (events_of s) 1000 (taken_by (net_of s) (plan_of s) p) (λ v m. known.takes (label_at s v) p (known.labels v m) l),
         known.laid.limited.events,
       )

@@ -57,16 +57,16 @@ module _ (s : List ℕ) (p : ℕ) (flow marks : List ℕ) where
       clear : (judge_fault s p flow marks).number ≡ 0
       clear = sym number_is ∙ none
 
-      by-marks : ((flow_fault s p flow).number ≡ 0) × (events_of s ≤ length marks)
+      by_marks : ((flow_fault s p flow).number ≡ 0) × (events_of s ≤ length marks)
       unfolding judge_fault
-      by-marks = row_known (flow_fault s p flow) marks (events_of s) clear
+      by_marks = row_known (flow_fault s p flow) marks (events_of s) clear
 
-      by-flow : ((place_fault s p).number ≡ 0) × (flow_length s ≤ length flow)
+      by_flow : ((place_fault s p).number ≡ 0) × (flow_length s ≤ length flow)
       unfolding flow_fault
-      by-flow = row_known (place_fault s p) flow (flow_length s) by-marks.0
+      by_flow = row_known (place_fault s p) flow (flow_length s) by_marks.0
 
       pub taken : (fault_of s).number ≡ 0
-      taken = (place_known s p by-flow.0).0
+      taken = (place_known s p by_flow.0).0
 
       pub known : Faultless s
       known = faultless s taken
@@ -75,15 +75,15 @@ module _ (s : List ℕ) (p : ℕ) (flow marks : List ℕ) where
       laid = told.laid clear
 
       pub place : p < e.layout.places
-      place = omega (arith, laid.places, (place_known s p by-flow.0).1)
+      place = omega (arith, laid.places, (place_known s p by_flow.0).1)
 
       pub room : (e.layout.pairs + e.layout.events ≤ length flow) × (e.layout.events ≤ length marks)
-      room = (omega (arith, laid.pairs, laid.events, by-flow.1), omega (arith, laid.events, by-marks.1))
+      room = (omega (arith, laid.pairs, laid.events, by_flow.1), omega (arith, laid.events, by_marks.1))
 
       module _ (flow' marks' : List ℕ) (done : marks' ≡ marks_done s p marks) (written : Written s p flow flow') where
-        pub spare-told : (z : ℤ) → z ≡ spare_at s p → Answered (Spare z) flow' marks'
+        pub spare_told : (z : ℤ) → z ≡ spare_at s p → Answered (Spare z) flow' marks'
         unfolding judgement_says marks_after
-        spare-told z is = (
+        spare_told z is = (
           ap answer is ∙ sym (said_answer (judge_fault s p flow marks) (spare_at s p) clear),
           (
             done ∙ at_none (judge_fault s p flow marks).number _ marks clear,

@@ -74,13 +74,13 @@ module _ (s row : List ℕ) (e : Examined) (told : FaultTold s (plan_fault s row
       pub in_row : places ≤ length new
       in_row = omega (arith, counted.size, long)
 
-      row-filled : new ≡ overwritten (missing_at s) (places_of s) row
-      row-filled =
+      row_filled : new ≡ overwritten (missing_at s) (places_of s) row
+      row_filled =
           filled_is (missing_at s) places row new counted ∙ ap (λ (k : ℕ). overwritten (missing_at s) k row) is
 
       pub judged : (t : Totals) → values_in t ≡ values_of (count_at new) places → (says (Judged t) ≡ plan_says s row) × (new ≡ row_of s row)
       unfolding plan_says plan_values row_of
       judged t is_sum = (
         ap answer (is_sum ∙ row_values s known places is row new counted) ∙ sym (said_answer (plan_fault s row) (plan_values s) clear),
-        row-filled ∙ at_none (plan_fault s row).number (overwritten (missing_at s) (places_of s) row) row clear,
+        row_filled ∙ at_none (plan_fault s row).number (overwritten (missing_at s) (places_of s) row) row clear,
       )

@@ -62,12 +62,12 @@ module _ (s : List ℕ) (known : Faultless s) (l : Layout) (is : LayoutOf s l) w
   counts_are r short total free h t = rw (is.events, is.pairs, free, h, t)
 
   module _ (old least : List ℕ) (counted : Filled (least_at s) l.places old least) where
-    pub least-row : LeastRow s least
-    least-row = record { counts = λ p m. counted.numbers p (omega (arith, is.places)) }
+    pub least_row : LeastRow s least
+    least_row = record { counts = λ p m. counted.numbers p (omega (arith, is.places)) }
 
     -- what they are above the opening counts is missing
-    pub missing-row : (zeros new : List ℕ) → Filled (λ p. get_or least p 0 - opening_at s p) l.places zeros new → Filled (missing_at s) l.places zeros new
-    missing-row zeros new above =
+    pub missing_row : (zeros new : List ℕ) → Filled (λ p. get_or least p 0 - opening_at s p) l.places zeros new → Filled (missing_at s) l.places zeros new
+    missing_row zeros new above =
         record {
           size = above.size;
           numbers = λ p m. omega (arith, above.numbers p m, counted.numbers p m, missing_opening (net_of s) (plan_of s) p);

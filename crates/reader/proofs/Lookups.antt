@@ -87,20 +87,20 @@ module _ {M : Type 1} (𝓤 : Ura M) where
     opening_is : any.clauses 𝓛 mem run ≡ LookupClauses Laid opening_at 𝓤
     opening_is = refl
 
-    gained-is : gained.clauses 𝓛 mem run ≡ LookupClauses Faultless gained_at 𝓤
-    gained-is = refl
+    gained_is : gained.clauses 𝓛 mem run ≡ LookupClauses Faultless gained_at 𝓤
+    gained_is = refl
 
-    lost-is : lost.clauses 𝓛 mem run ≡ LookupClauses Faultless lost_at 𝓤
-    lost-is = refl
+    lost_is : lost.clauses 𝓛 mem run ≡ LookupClauses Faultless lost_at 𝓤
+    lost_is = refl
 
-    opening-callee-is : callee.clauses 𝓛 mem run ≡ CalleeClauses 𝓤 OpeningAsked opening_at
-    opening-callee-is = refl
+    opening_callee_is : callee.clauses 𝓛 mem run ≡ CalleeClauses 𝓤 OpeningAsked opening_at
+    opening_callee_is = refl
 
-    gained-callee-is : gained-callee.clauses 𝓛 mem run ≡ CalleeClauses 𝓤 SideAsked gained_at
-    gained-callee-is = refl
+    gained_callee_is : gained-callee.clauses 𝓛 mem run ≡ CalleeClauses 𝓤 SideAsked gained_at
+    gained_callee_is = refl
 
-    lost-callee-is : lost-callee.clauses 𝓛 mem run ≡ CalleeClauses 𝓤 SideAsked lost_at
-    lost-callee-is = refl
+    lost_callee_is : lost-callee.clauses 𝓛 mem run ≡ CalleeClauses 𝓤 SideAsked lost_at
+    lost_callee_is = refl
 
 -- the n-th local gets the field k of the reader
 abbrev loads : ℕ → ℕ → Body
@@ -135,8 +135,8 @@ module _ {M : Type 1} {𝓤 : Ura M} (𝓛 : Logic 𝓤) where
     abbrev vd : Values D.parts
     vd = (d.sheet, (d.layout, tt))
 
-    sheet-owned : ent 𝓤 (sem 𝓛 ((T.the_row (named_lft 1 0 tt (κ, tt))).own_val d (T'.lowered d ∷ []))) (sem 𝓛 (Lent κ d.sheet))
-    sheet-owned =
+    sheet_owned : ent 𝓤 (sem 𝓛 ((T.the_row (named_lft 1 0 tt (κ, tt))).own_val d (T'.lowered d ∷ []))) (sem 𝓛 (Lent κ d.sheet))
+    sheet_owned =
         qed 𝓛 (‵ ((T.the_row (named_lft 1 0 tt (κ, tt))).own_val d (T'.lowered d ∷ [])) ∷ []) ∵
         use1 𝓛 (given (T'.lowered d ∷ [] ≡ T'.lowered d ∷ []) (‵ (all_own D.parts L vd))) (own_open 𝓛 D L vd (T'.lowered d)) $ learn ! (λ _.
         use1 𝓛 (‵ (field_own D.parts L 0 d.sheet) ⊛ ‵ (rest D.parts L 0 vd)) (own_out 𝓛 D.parts L 0 vd) $ split ! $ move ! (1 ∷ []) $ drop ! $ done !)
@@ -184,8 +184,8 @@ module _ {M : Type 1} {𝓤 : Ura M} (𝓛 : Logic 𝓤) where
           move ! (4 ∷ 5 ∷ []) $ free1 ! $ move ! (2 ∷ 3 ∷ []) $ free1 ! $ free0 ! $
           by ! (ends 𝓛 any.ended (LookupClauses Needs found 𝓤) (entry κ q d p) u r (tt, (tt, tt)) (one_fact 𝓤 h))))))))
 
-      pub lookup-meets : Meets 𝓛 any.signature (WpFn 𝓤 H 𝓣.C 𝓣.Λ (function f)) (closing 𝓛 any.ended (LookupClauses Needs found 𝓤))
-      lookup-meets =
+      pub lookup_meets : Meets 𝓛 any.signature (WpFn 𝓤 H 𝓣.C 𝓣.Λ (function f)) (closing 𝓛 any.ended (LookupClauses Needs found 𝓤))
+      lookup_meets =
           closes 𝓛 any.ended (LookupClauses Needs found 𝓤) (function f) 𝓣
           (λ κs. (LL.vals (T.the_type (named_lft 1 0 tt κs)) (T'.the_laws (named_lft 1 0 tt κs)), (LL.vals P.the_type P'.the_laws, tt))) ((λ κs x g. refl), ((λ κs x g. refl), tt))
           (λ κs. (LL.tells (T.the_type (named_lft 1 0 tt κs)) (T'.the_laws (named_lft 1 0 tt κs)), (LL.tells P.the_type P'.the_laws, tt))) (λ y are.
@@ -194,7 +194,7 @@ module _ {M : Type 1} {𝓤 : Ura M} (𝓛 : Logic 𝓤) where
           let d = y.0.3.0 in
           let p = y.0.3.1.0 in
           let t : SProp 𝓤 = alive 𝓛 any.signature (κ, tt) (q, tt) in
-          begins 𝓛 any.signature (κ, tt) (q, tt) (d, (p, tt)) (entry κ q d p).0.4 refl (λ known. via 𝓤 (sep 𝓤 (sem 𝓛 (Lent κ d.sheet)) t) (mono_l 𝓤 t (sheet-owned κ d))
+          begins 𝓛 any.signature (κ, tt) (q, tt) (d, (p, tt)) (entry κ q d p).0.4 refl (λ known. via 𝓤 (sep 𝓤 (sem 𝓛 (Lent κ d.sheet)) t) (mono_l 𝓤 t (sheet_owned κ d))
           (walk κ q d p known ((LL.lawful (D κ d) (L κ d) 𝓛).typed d _ are.0).0 (LL.owed (D κ d) (L κ d) d _ are.0).1.0 are.1.0)))
 
   -- what a lookup has to show of its callee's asking

@@ -119,8 +119,8 @@ module _ (Needs : List ℕ → Type 0) (found : List ℕ → ℕ → ℕ) {M : T
         move ! (8 ∷ 9 ∷ []) $ free1 ! $ move ! (6 ∷ 7 ∷ []) $ free1 ! $ move ! (4 ∷ 5 ∷ []) $ free1 ! $ move ! (2 ∷ 3 ∷ []) $ free1 ! $ free0 ! $
         by ! (ends 𝓛 any.ended (PlainClauses Needs found 𝓤) (entry κ q s p) w n (tt, (tt, tt)) (one_fact 𝓤 (h' ∙ ap (λ (x : Reader). found x.sheet.now p.0) h)))))))))
 
-    pub plain-meets : Meets 𝓛 any.signature (WpFn 𝓤 H 𝓣.C 𝓣.Λ (function callee)) (closing 𝓛 any.ended (PlainClauses Needs found 𝓤))
-    plain-meets =
+    pub plain_meets : Meets 𝓛 any.signature (WpFn 𝓤 H 𝓣.C 𝓣.Λ (function callee)) (closing 𝓛 any.ended (PlainClauses Needs found 𝓤))
+    plain_meets =
         closes 𝓛 any.ended (PlainClauses Needs found 𝓤) (function callee) 𝓣 (λ κs. (shr_slice_vals, (LL.vals P.the_type P'.the_laws, tt))) ((λ κs x f. refl), ((λ κs x f. refl), tt))
         (λ κs. (shr_slice_Tells (named 0) κs.0 u8, (LL.tells P.the_type P'.the_laws, tt)))
         (λ y are. begins 𝓛 any.signature y.0.0 y.0.1 y.0.3 (entry y.0.0.0 y.0.1.0 y.0.3.0 y.0.3.1.0).0.4 refl

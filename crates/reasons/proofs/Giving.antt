@@ -53,10 +53,10 @@ module _ (s : List ℕ) where
         record { earlier = subst (Ends from (earlier_at s)) back h.earlier; later = subst (Ends to (later_at s)) back h.later }
 
     -- one end of the new pair is behind those of the others
-    put-end : (of : ℕ → ℕ) (old new : List ℕ) → kept s i ≡ true → Stored old new (length (chosen i (kept s))) (of i)
+    put_end : (of : ℕ → ℕ) (old new : List ℕ) → kept s i ≡ true → Stored old new (length (chosen i (kept s))) (of i)
         → Ends old of (chosen i (kept s)) → Ends new of (chosen (i + 1) (kept s))
     unfolding Ends
-    put-end of old new e put so_far k l =
+    put_end of old new e put so_far k l =
         below_next
         (length (chosen i (kept s)))
         k
@@ -72,7 +72,7 @@ module _ (s : List ℕ) where
         → Stored to to₁ (length (chosen i (kept s))) (later_at s i) → HoldsKept s (i + 1) from₁ to₁
     unfolding Ends
     holds_more {from₁} {to₁} e first second =
-        record { earlier = put-end (earlier_at s) from from₁ e first h.earlier; later = put-end (later_at s) to to₁ e second h.later }
+        record { earlier = put_end (earlier_at s) from from₁ e first h.earlier; later = put_end (later_at s) to to₁ e second h.later }
 
 module _ (s : List ℕ) (old : List ℕ) where
   pub so_far_start : (from to : List ℕ) (n : ℕ) → SoFar s old old from to (replicate n 0) 0 0

@@ -4,7 +4,7 @@ use native.Mathlib.Omega.{arith}
 use mathlib.Core.List.{List}
 use mathlib.Core.Path.{sym, ap, subst}
 use Rattle.finite.specs.Count.{count, count_insert, count_le}
-use Rattle.finite.specs.Queue.{Queued, queued-more}
+use Rattle.finite.specs.Queue.{Queued, queued_more}
 use Rattle.finite.specs.Subset.{Set, insert}
 use Rattle.search.specs.Row.{members, In}
 use Rattle.search.specs.Searched.{Listed}
@@ -20,4 +20,4 @@ fewer_left {row} {x = x} j fresh =
 pub listed_more : {row new queue queue' : List ℕ} {tail x : ℕ} → Joined row new x queue queue' tail x → (In row x → ⊥)
     → Listed row queue tail → Listed new queue' (tail + 1)
 listed_more {queue' = queue'} {tail = tail} {x = x} j fresh q =
-    subst (λ (S : Set). Queued 256 S queue' (tail + 1)) (sym (gained j)) (queued-more q x j.event fresh j.put)
+    subst (λ (S : Set). Queued 256 S queue' (tail + 1)) (sym (gained j)) (queued_more q x j.event fresh j.put)

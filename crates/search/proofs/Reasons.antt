@@ -60,7 +60,7 @@ module _ {pred fed share : List ℕ} {n : ℕ} {t : Takers} {g : Givers} (r : Tr
   trail_taker {u} {x} {row} {queue} {origin} narrow j p giver early feeds =
       record {
         reason = λ i h. below_next t.tail i h (λ low. before i low) (λ e. subst Reason (sym e) here);
-        met = λ v h. met-still v (r.met v h);
+        met = λ v h. met_still v (r.met v h);
         least = λ W E k. (
           λ w h.
               gain_cases
@@ -93,8 +93,8 @@ module _ {pred fed share : List ℕ} {n : ℕ} {t : Takers} {g : Givers} (r : Tr
       here =
           inr (record { giver = rw p.here giver; feeds = rw (p.here, j.put.here) feeds; earlier = rw p.here early })
 
-      met-still : (v : ℕ) → MetBy pred t g v → MetBy pred s g v
-      met-still v f = record { place = omega (arith, f.place); before = rw (stored_below j.put (g.via ! v) f.place) f.before }
+      met_still : (v : ℕ) → MetBy pred t g v → MetBy pred s g v
+      met_still v f = record { place = omega (arith, f.place); before = rw (stored_below j.put (g.via ! v) f.place) f.before }
 
   -- the giver u is before the taker at `head`
   pub trail_giver : {head u : ℕ} {row via : List ℕ} → Narrow pred fed n → Joined g.row row u g.via via u head → (In g.row u → ⊥)
@@ -104,7 +104,7 @@ module _ {pred fed share : List ℕ} {n : ℕ} {t : Takers} {g : Givers} (r : Tr
       record {
         reason = λ i low.
             ⊎_elim (λ h. inl h) (λ f. inr (fed_moved {t = t} {s = t} {g = g} refl refl (still (t.origin ! i)) f)) (r.reason i low);
-        met = λ v there. gain_cases j v there (λ e. rw e here) (λ old. met-still v old (r.met v old));
+        met = λ v there. gain_cases j v there (λ e. rw e here) (λ old. met_still v old (r.met v old));
         least = λ W E k. (
           (r.least W E k).0,
           λ v there.
@@ -126,14 +126,14 @@ module _ {pred fed share : List ℕ} {n : ℕ} {t : Takers} {g : Givers} (r : Tr
       below : w < n
       below = taker_below w taker
 
-      old-via : (v : ℕ) → In g.row v → h.via ! v ≡ g.via ! v
-      old-via v old = j.put.others v (λ e. fresh (subst (In g.row) e old))
+      old_via : (v : ℕ) → In g.row v → h.via ! v ≡ g.via ! v
+      old_via v old = j.put.others v (λ e. fresh (subst (In g.row) e old))
 
       still : (v : ℕ) → In g.row v → In h.row v × (h.via ! v ≡ g.via ! v)
-      still v old = (gain_keeps j v old, old-via v old)
+      still v old = (gain_keeps j v old, old_via v old)
 
       here : MetBy pred t h u
       here = record { place = rw j.put.here early; before = rw j.put.here before }
 
-      met-still : (v : ℕ) → In g.row v → MetBy pred t g v → MetBy pred t h v
-      met-still v old f = record { place = rw (old-via v old) f.place; before = rw (old-via v old) f.before }
+      met_still : (v : ℕ) → In g.row v → MetBy pred t g v → MetBy pred t h v
+      met_still v old f = record { place = rw (old_via v old) f.place; before = rw (old_via v old) f.before }

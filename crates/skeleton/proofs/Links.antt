@@ -14,14 +14,14 @@ use Rattle.finite.specs.Search.{fails}
 use Rattle.plan.specs.Net.{Plan}
 use Rattle.plan.specs.Order.{skeleton}
 use Rattle.marks.specs.Marks.{marked, meeting, none_marked, MarkAdded}
-use Rattle.order.specs.Laws.{skeleton-marked}
+use Rattle.order.specs.Laws.{skeleton_marked}
 use Rattle.order.specs.Rows.{Blank, OrderRows}
 use Rattle.sheet.specs.Faultless.{Faultless}
 use Rattle.sheet.specs.Items.{earlier_at, later_at, plan_of}
 use Rattle.sheet.specs.Table.{pairs_of}
 use Rattle.skeleton.specs.Linked.{IsLink, Linked}
 use Rattle.skeleton.specs.Lists.{Unlisted, PairListed, Lists}
-use Rattle.skeleton.proofs.Listing.{lists_none, lists-skip, lists-more}
+use Rattle.skeleton.proofs.Listing.{lists_none, lists_skip, lists_more}
 
 pub links_none : (P : Plan) (m : ℕ) (skel index : List ℕ) → m ≡ 0 → Blank skel → Unlisted index → Linked P m skel index
 links_none P m skel index none blank unlisted =
@@ -50,7 +50,7 @@ module _ {P : Plan} {m : ℕ} {skel index : List ℕ} (l : Linked P m skel index
               (omega arith)
               (λ low. l.marks i low t)
               (λ e. absurd (fails (skeleton P m) passed (subst (λ (n : ℕ). T (skeleton P n)) e t)));
-          lists = lists-skip P l.lists room passed;
+          lists = lists_skip P l.lists room passed;
         }
 
     module _ (narrow : (i : ℕ) → i < m + 1 → P.earlier i < most_events) (bare : skeleton P m ≡ true) {skel' index' : List ℕ}
@@ -73,7 +73,7 @@ module _ {P : Plan} {m : ℕ} {skel index : List ℕ} (l : Linked P m skel index
                 (omega arith)
                 (λ low. yes_or_left (marked skel (P.later i) (P.earlier i)) _ (l.marks i low t))
                 (λ e. yes_or_right (marked skel (P.later i) (P.earlier i)) _ (is i e)));
-            lists = lists-more P l.lists room bare hb put;
+            lists = lists_more P l.lists room bare hb put;
           }
         where
           is : (i : ℕ) → i ≡ m → T (eqb (P.later i) (P.later m) && eqb (P.earlier i) (P.earlier m))
@@ -101,15 +101,15 @@ module _ {s : List ℕ} (known : Faultless s) {i a b : ℕ} (lm : i < pairs_of s
 
   module _ {succ pred : List ℕ} (rows : OrderRows (plan_of s) succ pred) {r : Bool} (told : r ≡ not (meeting succ a pred b)) where
     answer : skeleton (plan_of s) i ≡ r
-    answer = sym (told ∙ rw (at_a, at_b) (skeleton-marked s known succ pred rows i lm))
+    answer = sym (told ∙ rw (at_a, at_b) (skeleton_marked s known succ pred rows i lm))
 
     module _ {skel index skel' index' : List ℕ} (l : Linked (plan_of s) i skel index) where
-      pub link-skip : r ≡ false → skel' ≡ skel → index' ≡ index → Linked (plan_of s) (i + 1) skel' index'
-      link-skip away e f = rw (e, f) (skip l room (answer ∙ away))
+      pub link_skip : r ≡ false → skel' ≡ skel → index' ≡ index → Linked (plan_of s) (i + 1) skel' index'
+      link_skip away e f = rw (e, f) (skip l room (answer ∙ away))
 
-      pub link-more : {skel₁ index₁ : List ℕ} → r ≡ true → MarkAdded skel skel₁ b a → PairListed index index₁ a b i → skel' ≡ skel₁ → index' ≡ index₁
+      pub link_more : {skel₁ index₁ : List ℕ} → r ≡ true → MarkAdded skel skel₁ b a → PairListed index index₁ a b i → skel' ≡ skel₁ → index' ≡ index₁
           → Linked (plan_of s) (i + 1) skel' index'
-      link-more bare added new e f =
+      link_more bare added new e f =
           rw
           (e, f)
           (more

@@ -41,8 +41,8 @@ module _ (P : Plan) where
       }
 
   module _ {m : ℕ} {index : List ℕ} (so_far : Lists P m index) (room : m < most_pairs) where
-    pub lists-skip : skeleton P m ≡ false → Lists P (m + 1) index
-    lists-skip passed =
+    pub lists_skip : skeleton P m ≡ false → Lists P (m + 1) index
+    lists_skip passed =
         record {
           few = omega arith;
           heads = λ v l.
@@ -92,5 +92,5 @@ module _ (P : Plan) where
           (λ low. put.others (start_at i) (λ e. omega arith) (λ e. omega arith) (λ e. omega arith) ∙ so_far.starts i low t)
           (λ e. subst (λ (j : ℕ). get_or index' (start_at j) 0 ≡ P.earlier j) (sym e) put.start)
 
-      pub lists-more : Lists P (m + 1) index'
-      lists-more = record { few = omega arith; heads = heads; links = links; starts = starts }
+      pub lists_more : Lists P (m + 1) index'
+      lists_more = record { few = omega arith; heads = heads; links = links; starts = starts }

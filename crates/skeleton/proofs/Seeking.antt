@@ -80,14 +80,14 @@ module _ {index : List ℕ} {a b i : ℕ} (seeking : Seeking index a b i) where
             let pair = seeking.here some.0 some.1 in
             some.1.starts i pair.0 pair.1 ∙ ap some.0.earlier (sym e) ∙ some.3.starts
 
-    pub seek-more : 0 < get_or index (link_at i) 0
-    seek-more = omega (arith, before.0, before.1)
+    pub seek_more : 0 < get_or index (link_at i) 0
+    seek_more = omega (arith, before.0, before.1)
 
-    pub seek-less : get_or index (link_at i) 0 - 1 < i
-    seek-less = let some = seeking.ahead in omega (arith, seek-more, before.0, last_le (ends_at some.0 b) i)
+    pub seek_less : get_or index (link_at i) 0 - 1 < i
+    seek_less = let some = seeking.ahead in omega (arith, seek_more, before.0, last_le (ends_at some.0 b) i)
 
-    pub seek-next : (n : ℕ) → n ≡ get_or index (link_at i) 0 - 1 → Seeking index a b n
-    seek-next n is =
+    pub seek_next : (n : ℕ) → n ≡ get_or index (link_at i) 0 - 1 → Seeking index a b n
+    seek_next n is =
         record {
           here = λ P lists.
               let pair = listed P b i n (sym (link P lists) ∙ whole) in
@@ -96,4 +96,4 @@ module _ {index : List ℕ} {a b i : ℕ} (seeking : Seeking index a b i) where
         }
       where
         whole : get_or index (link_at i) 0 ≡ n + 1
-        whole = omega (arith, is, seek-more)
+        whole = omega (arith, is, seek_more)

@@ -15,7 +15,7 @@ use Rattle.sorting.specs.Sorted.{Round}
 use Rattle.sorting.specs.Steps.{Lowered}
 use Rattle.sorting.specs.Waiting.{starts_at, waits_for, Lists, Listed}
 use Rattle.sorting.proofs.Seeding.{is_ready}
-use Rattle.sorting.proofs.Walks.{Walk, walk_start, walk_end, walk_more, step-pair, step-some, step_room}
+use Rattle.sorting.proofs.Walks.{Walk, walk_start, walk_end, walk_more, step_pair, step_some, step_room}
 
 module _ (P : Plan) where
   -- no event waits for more pairs than there are
@@ -42,36 +42,36 @@ module _ (P : Plan) where
         let event = queued_event left old h n round room in
         walk_start P old h (get_or old h 0) left n (get_or first (get_or old h 0) 0) round room (lists.heads (get_or old h 0) (omega (arith, event, few)))
 
-    pub walking-end : (left queue : List ℕ) (n at : ℕ) → Walking at left queue n → at ≡ 0 → Round P left queue (h + 1) n
-    walking-end left queue n at walk none = walk_end P old h (get_or old h 0) refl left queue n at walk none
+    pub walking_end : (left queue : List ℕ) (n at : ℕ) → Walking at left queue n → at ≡ 0 → Round P left queue (h + 1) n
+    walking_end left queue n at walk none = walk_end P old h (get_or old h 0) refl left queue n at walk none
 
     module _ (left queue : List ℕ) (n at : ℕ) (walk : Walking at left queue n) (some : 0 < at) where
-      at-k : at ≡ (at - 1) + 1
-      at-k = omega (arith, some)
+      at_k : at ≡ (at - 1) + 1
+      at_k = omega (arith, some)
 
       pair : (at - 1 < P.pairs) × (P.earlier (at - 1) ≡ get_or old h 0)
-      pair = step-pair P old h (get_or old h 0) refl left queue n at (at - 1) walk at-k
+      pair = step_pair P old h (get_or old h 0) refl left queue n at (at - 1) walk at_k
 
-      pub walking-pair : at - 1 < P.pairs
-      walking-pair = pair.0
+      pub walking_pair : at - 1 < P.pairs
+      walking_pair = pair.0
 
       link : get_or next (at - 1) 0 ≡ last (at - 1) (starts_at P (get_or old h 0))
       link = lists.links (at - 1) pair.0 ∙ ap (λ (u : ℕ). last (at - 1) (starts_at P u)) pair.1
 
       -- the next pair of the list is an earlier one
-      pub walking-less : get_or next (at - 1) 0 < at
-      walking-less = omega (arith, some, link, last_le (starts_at P (get_or old h 0)) (at - 1))
+      pub walking_less : get_or next (at - 1) 0 < at
+      walking_less = omega (arith, some, link, last_le (starts_at P (get_or old h 0)) (at - 1))
 
       event : P.later (at - 1) < P.events
       event = named.later (at - 1) pair.0
 
-      pub walking-needs : (P.later (at - 1) < most_events) × (1 ≤ get_or left (P.later (at - 1)) 0) × (n < most_events)
-      walking-needs = (
+      pub walking_needs : (P.later (at - 1) < most_events) × (1 ≤ get_or left (P.later (at - 1)) 0) × (n < most_events)
+      walking_needs = (
         omega (arith, event, few),
-        step-some P old h (get_or old h 0) refl left queue n at (at - 1) walk at-k (P.later (at - 1)) refl event few,
-        step_room P old h (get_or old h 0) refl left queue n at (at - 1) walk at-k (P.later (at - 1)) refl event few,
+        step_some P old h (get_or old h 0) refl left queue n at (at - 1) walk at_k (P.later (at - 1)) refl event few,
+        step_room P old h (get_or old h 0) refl left queue n at (at - 1) walk at_k (P.later (at - 1)) refl event few,
       )
 
-      pub walking-more : {left' queue' : List ℕ} {n' : ℕ} → Lowered left queue left' queue' (P.later (at - 1)) n n' → Walking (get_or next (at - 1) 0) left' queue' n'
-      walking-more low =
-          walk_more P old h (get_or old h 0) refl left queue n at (at - 1) walk at-k (P.later (at - 1)) refl event few low (get_or next (at - 1) 0) link
+      pub walking_more : {left' queue' : List ℕ} {n' : ℕ} → Lowered left queue left' queue' (P.later (at - 1)) n n' → Walking (get_or next (at - 1) 0) left' queue' n'
+      walking_more low =
+          walk_more P old h (get_or old h 0) refl left queue n at (at - 1) walk at_k (P.later (at - 1)) refl event few low (get_or next (at - 1) 0) link

@@ -93,11 +93,11 @@ module _ (P : Plan) (gone : Set) (left : List ℕ) (waits : Waits P gone P.pairs
         (moved P (insert i gone) gone w j (λ g. yes_or_right (eqb j i) (gone j) g)))
 
     -- it waits for that pair at least
-    pub waits-some : 1 ≤ get_or left v 0
-    waits-some = omega (arith, waits.counts v event, one_less)
+    pub waits_some : 1 ≤ get_or left v 0
+    waits_some = omega (arith, waits.counts v event, one_less)
 
-    pub waits-less : {new : List ℕ} → Stored left new v (get_or left v 0 - 1) → Waits P (insert i gone) P.pairs new
-    waits-less put =
+    pub waits_less : {new : List ℕ} → Stored left new v (get_or left v 0 - 1) → Waits P (insert i gone) P.pairs new
+    waits_less put =
         record {
           counts = λ w l.
               ⊎_elim

@@ -10,7 +10,7 @@ use lib.ListN.{length, get_or, set}
 use mir.Facts.{and_yes, yes_and, or_yes, yes_eqb, yes_ltb}
 use Rattle.finite.specs.Bounded.{any_yes, yes_or_left, yes_or_right}
 use Rattle.finite.specs.Count.{none_count}
-use Rattle.finite.specs.Queue.{Queued, below_next, stored, queued_none, queued-more}
+use Rattle.finite.specs.Queue.{Queued, below_next, stored, queued_none, queued_more}
 use Rattle.finite.specs.Subset.{Set, empty, insert, set_ext}
 use Rattle.ids.specs.Limits.{most_events}
 use Rattle.plan.specs.Net.{Plan}
@@ -39,7 +39,7 @@ module _ (n v end : ℕ) (left queue : List ℕ) (q : Queued n (ready v left) qu
       subst
       (λ (S : Set). Queued n S (set queue end v) (end + 1))
       (set_ext (insert v (ready v left)) (ready (v + 1) left) to from)
-      (queued-more q v l fresh (stored queue end v fits))
+      (queued_more q v l fresh (stored queue end v fits))
     where
       to : (w : ℕ) → T (eqb w v || ready v left w) → T (ready (v + 1) left w)
       to w t =

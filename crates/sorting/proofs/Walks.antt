@@ -12,14 +12,14 @@ use mir.Facts.{and_yes, yes_and, or_yes, yes_eqb, yes_leb, eqb_no}
 use Rattle.finite.specs.Bounded.{any_yes, yes_any, decide, yes_or_left, yes_or_right}
 use Rattle.finite.specs.Count.{none_count}
 use Rattle.finite.specs.Last.{last, last_le, last_passes, last_above}
-use Rattle.finite.specs.Queue.{Queued, Stored, below_next, stored_below, queued-more, queued-room}
+use Rattle.finite.specs.Queue.{Queued, Stored, below_next, stored_below, queued_more, queued_room}
 use Rattle.finite.specs.Subset.{Set, insert}
 use Rattle.ids.specs.Limits.{most_events}
 use Rattle.plan.specs.Net.{Plan}
 use Rattle.sorting.specs.Sorted.{ready, passed, Ordered, Round}
 use Rattle.sorting.specs.Steps.{Lowered}
 use Rattle.sorting.specs.Waiting.{starts_at, waits_for, Waits}
-use Rattle.sorting.proofs.Lowering.{Waiting, is_waits, waits_same, waits-some, waits-less, not_ready, ready_same, ready_more}
+use Rattle.sorting.proofs.Lowering.{Waiting, is_waits, waits_same, waits_some, waits_less, not_ready, ready_same, ready_more}
 
 module _ (P : Plan) (old : List ℕ) (h u : ℕ) where
   abbrev gone : ℕ → Set
@@ -107,9 +107,9 @@ module _ (P : Plan) (old : List ℕ) (h u : ℕ) where
             (λ low. gone_before at i (yes_any h (λ k. eqb (get_or old k 0) (P.earlier i)) k.0 low (yes_eqb is)))
             (λ end. gone_own at i (sym is ∙ ap (λ (z : ℕ). get_or old z 0) end ∙ sym place) (omega (arith, none)))
 
-    module _ (left queue : List ℕ) (n at k : ℕ) (walk : Walk at left queue n) (at-k : at ≡ k + 1) where
-      pub step-pair : (k < P.pairs) × (P.earlier k ≡ u)
-      step-pair = let is = walk.here k at-k in (is.0, eqb→eq (P.earlier k) u is.1)
+    module _ (left queue : List ℕ) (n at k : ℕ) (walk : Walk at left queue n) (at_k : at ≡ k + 1) where
+      pub step_pair : (k < P.pairs) × (P.earlier k ≡ u)
+      step_pair = let is = walk.here k at_k in (is.0, eqb→eq (P.earlier k) u is.1)
 
       -- It is not gone over yet, since each event is in the queue once.
       fresh : T (gone at k) → ⊥
@@ -118,9 +118,9 @@ module _ (P : Plan) (old : List ℕ) (h u : ℕ) where
           (λ before.
           let j = any_yes h (λ j. eqb (get_or old j 0) (P.earlier k)) before in
           walk.queued.once j.0 h j.1 walk.room (
-          walk.still j.0 (omega (arith, j.1)) ∙ eqb→eq (get_or old j.0 0) (P.earlier k) j.2 ∙ step-pair.1 ∙ place ∙ sym (walk.still h (omega arith))
+          walk.still j.0 (omega (arith, j.1)) ∙ eqb→eq (get_or old j.0 0) (P.earlier k) j.2 ∙ step_pair.1 ∙ place ∙ sym (walk.still h (omega arith))
           ))
-          (λ own. omega (arith, own.1, at-k))
+          (λ own. omega (arith, own.1, at_k))
           (gone_is at k g)
 
       module _ (v : ℕ) (ends : v ≡ P.later k) (event : v < P.events) (few : P.events ≤ most_events) where
@@ -130,15 +130,15 @@ module _ (P : Plan) (old : List ℕ) (h u : ℕ) where
         event_few : v < most_events
         event_few = omega (arith, event, few)
 
-        pub step-some : 1 ≤ get_or left v 0
-        step-some = waits-some P (gone at) left walk.waits k v step-pair.0 waiting event_few
+        pub step_some : 1 ≤ get_or left v 0
+        step_some = waits_some P (gone at) left walk.waits k v step_pair.0 waiting event_few
 
         -- there is room in the queue
         pub step_room : n < most_events
-        step_room = omega (arith, few, queued-room walk.queued v event (λ t. eqb-zero t))
+        step_room = omega (arith, few, queued_room walk.queued v event (λ t. eqb-zero t))
           where
             eqb-zero : T (ready P.events left v) → ⊥
-            eqb-zero t = omega (arith, step-some, eqb→eq (get_or left v 0) 0 (and_yes (ltb v P.events) (eqb (get_or left v 0) 0) t).1)
+            eqb-zero t = omega (arith, step_some, eqb→eq (get_or left v 0) 0 (and_yes (ltb v P.events) (eqb (get_or left v 0) 0) t).1)
 
         module _ {less : List ℕ} (lowered : Stored left less v (get_or left v 0 - 1)) (at' : ℕ) (is : at' ≡ last k (starts_at P u)) where
           -- what is gone over then
@@ -148,7 +148,7 @@ module _ (P : Plan) (old : List ℕ) (h u : ℕ) where
               P
               (insert k (gone at))
               less
-              (waits-less P (gone at) left walk.waits k v step-pair.0 waiting event_few lowered)
+              (waits_less P (gone at) left walk.waits k v step_pair.0 waiting event_few lowered)
               (gone at')
               to
               from
@@ -158,11 +158,11 @@ module _ (P : Plan) (old : List ℕ) (h u : ℕ) where
                   ⊎_elim
                   (λ e.
                   let same-pair : i ≡ k = eqb→eq i k e in
-                  gone_own at' i (ap P.earlier same-pair ∙ step-pair.1) (omega (arith, same-pair, is, last_le (starts_at P u) k)))
+                  gone_own at' i (ap P.earlier same-pair ∙ step_pair.1) (omega (arith, same-pair, is, last_le (starts_at P u) k)))
                   (λ o.
                   ⊎_elim
                   (gone_before at' i)
-                  (λ own. gone_own at' i own.0 (omega (arith, own.1, at-k, is, last_le (starts_at P u) k)))
+                  (λ own. gone_own at' i own.0 (omega (arith, own.1, at_k, is, last_le (starts_at P u) k)))
                   (gone_is at i o))
                   (or_yes (eqb i k) (gone at i) g)
 
@@ -182,7 +182,7 @@ module _ (P : Plan) (old : List ℕ) (h u : ℕ) where
                   (gone_is at' i g)
                 where
                   above : (i : ℕ) → ¬ (i ≡ k) → k ≤ i → at ≤ i
-                  above i other l = omega (arith, at-k, lt_of_le_of_ne l (λ e. other (sym e)))
+                  above i other l = omega (arith, at_k, lt_of_le_of_ne l (λ e. other (sym e)))
 
           -- Where v waits for nothing then, what has a pair to it is in the queue.
           before-it : get_or less v 0 ≡ 0 → (i : ℕ) → i < P.pairs → P.later i ≡ v → (j : ℕ) × (j ≤ h) × (get_or queue j 0 ≡ P.earlier i)
@@ -209,13 +209,13 @@ module _ (P : Plan) (old : List ℕ) (h u : ℕ) where
           walk-joins : {longer : List ℕ} → Stored queue longer n v → get_or left v 0 ≡ 1 → Walk at' less longer (n + 1)
           walk-joins {longer} put one =
               record {
-                here = linked k at' (omega (arith, step-pair.0)) is;
+                here = linked k at' (omega (arith, step_pair.0)) is;
                 waits = waits-then;
                 queued =
                     subst
                     (λ (S : Set). Queued P.events S longer (n + 1))
-                    (sym (ready_more P.events v left less event lowered step-some one))
-                    (queued-more walk.queued v event (not_ready P.events v left less event lowered step-some) put);
+                    (sym (ready_more P.events v left less event lowered step_some one))
+                    (queued_more walk.queued v event (not_ready P.events v left less event lowered step_some) put);
                 ordered = λ z i l li e.
                     below_next
                     n
@@ -235,12 +235,12 @@ module _ (P : Plan) (old : List ℕ) (h u : ℕ) where
           walk-stays : ¬ (get_or left v 0 ≡ 1) → Walk at' less queue n
           walk-stays more =
               record {
-                here = linked k at' (omega (arith, step-pair.0)) is;
+                here = linked k at' (omega (arith, step_pair.0)) is;
                 waits = waits-then;
                 queued =
                     subst
                     (λ (S : Set). Queued P.events S queue n)
-                    (sym (ready_same P.events v left less event lowered step-some more))
+                    (sym (ready_same P.events v left less event lowered step_some more))
                     walk.queued;
                 ordered = walk.ordered;
                 room = walk.room;

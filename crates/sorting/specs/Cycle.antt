@@ -36,8 +36,8 @@ module _ (P : Plan) where
     R = ready P.events left
 
     -- Whatever is left out waits for something that is left out.
-    waits-still : (v : ℕ) → v < P.events → (T (R v) → ⊥) → (i : ℕ) × (i < P.pairs) × (P.later i ≡ v) × (T (R (P.earlier i)) → ⊥)
-    waits-still v l out = ⊎_elim some none (decide (any P.pairs W))
+    waits_still : (v : ℕ) → v < P.events → (T (R v) → ⊥) → (i : ℕ) × (i < P.pairs) × (P.later i ≡ v) × (T (R (P.earlier i)) → ⊥)
+    waits_still v l out = ⊎_elim some none (decide (any P.pairs W))
       where
         W : Set
         W = waits_for P (passed P queue n) v
@@ -74,7 +74,7 @@ module _ (P : Plan) where
         → v < P.events → (T (R v) → ⊥) → ⊥
     none_out acyclic zero v fewer l out = omega (arith, fewer)
     none_out acyclic (suc bound) v fewer l out =
-        let w = waits-still v l out in
+        let w = waits_still v l out in
         let u = P.earlier w.0 in
         let below = named.earlier w.0 w.1 in
         none_out acyclic bound u (omega (arith, fewer, less w.0 w.1 w.2)) below w.3

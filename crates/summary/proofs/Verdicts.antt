@@ -60,26 +60,26 @@ module _ (missing : ℕ → ℕ) where
     stays q k v = stays_by (first_short missing p) q k refl v.0 v.1
 
     -- a place that lacks something is the first short one where none was,
-    here-by : (o : Option ℕ) (q : Place) → first_short missing p ≡ o → 0 ≡ short_number o → q.0 ≡ p → 0 < m → VerdictOf missing (p + 1) (Short q m)
-    here-by none q found number at lacks =
+    here_by : (o : Option ℕ) (q : Place) → first_short missing p ≡ o → 0 ≡ short_number o → q.0 ≡ p → 0 < m → VerdictOf missing (p + 1) (Short q m)
+    here_by none q found number at lacks =
         told (p + 1) (some p) (Short q m) (after p none true found (lt-ltb 0 (missing p) (omega (arith, is)))) (omega arith) (sym is)
-    here-by (some i) q found number at lacks = absurd (omega arith)
+    here_by (some i) q found number at lacks = absurd (omega arith)
 
     -- and one that lacks nothing changes nothing
-    nothing-by : (o : Option ℕ) → first_short missing p ≡ o → 0 ≡ short_number o → m ≡ 0 → VerdictOf missing (p + 1) Runs
-    nothing-by none found number lacks =
+    nothing_by : (o : Option ℕ) → first_short missing p ≡ o → 0 ≡ short_number o → m ≡ 0 → VerdictOf missing (p + 1) Runs
+    nothing_by none found number lacks =
         told (p + 1) none Runs (after p none false found (le-ltb 0 (missing p) (omega (arith, is)))) refl refl
-    nothing-by (some i) found number lacks = absurd (omega arith)
+    nothing_by (some i) found number lacks = absurd (omega arith)
 
     nothing : (v : Verdict) → m ≡ 0 → VerdictOf missing p v → VerdictOf missing (p + 1) v
-    nothing Runs lacks v = nothing-by (first_short missing p) refl v.0 lacks
+    nothing Runs lacks v = nothing_by (first_short missing p) refl v.0 lacks
     nothing (Short q k) lacks v = stays q k v
 
 pub same_after : (v : Verdict) (p m : ℕ) → m ≡ 0 → NextVerdict v p m v
 same_after v p m lacks = λ missing is before. nothing missing p m is v lacks before
 
 pub short_after : (p : Place) (m : ℕ) → 0 < m → NextVerdict Runs p.0 m (Short p m)
-short_after p m lacks = λ missing is before. here-by missing p.0 m is (first_short missing p.0) p refl before.0 refl lacks
+short_after p m lacks = λ missing is before. here_by missing p.0 m is (first_short missing p.0) p refl before.0 refl lacks
 
 pub kept_after : (q : Place) (k p m : ℕ) → NextVerdict (Short q k) p m (Short q k)
 kept_after q k p m = λ missing is before. stays missing p m is q k before

@@ -35,11 +35,11 @@ module _ (N : Net) (P : Plan) (p k : ℕ) where
   -- With k tokens opening it is what the least opening count is above k.
   pub missing_opens : missing (opens_with N p k) P p ≡ least_opening N P p - k
   missing_opens =
-      missing_opening (opens_with N p k) P p ∙ ap₂ ◌-◌ least_opens (taken-branch (eqb p p) k (N.opening p) (eqb_refl p))
+      missing_opening (opens_with N p k) P p ∙ ap₂ ◌-◌ least_opens (taken_branch (eqb p p) k (N.opening p) (eqb_refl p))
     where
-      taken-branch : (b : Bool) (x y : ℕ) → T b → cond b x y ≡ x
-      taken-branch true x y t = refl
-      taken-branch false x y t = absurd t
+      taken_branch : (b : Bool) (x y : ℕ) → T b → cond b x y ≡ x
+      taken_branch true x y t = refl
+      taken_branch false x y t = absurd t
 
 -- ---- the same weights, and more order
 
@@ -48,12 +48,12 @@ module _ (N : Net) (P : Plan) (p : ℕ) (M : Net) (Q : Plan) (q : ℕ) (s : Same
   turned =
       record {
         events = sym s.events;
-        takes = λ v l. sym (s.takes v (to-first l));
-        gives = λ v l. sym (s.gives v (to-first l));
+        takes = λ v l. sym (s.takes v (to_first l));
+        gives = λ v l. sym (s.gives v (to_first l));
       }
     where
-      to-first : {v : ℕ} → v < Q.events → v < P.events
-      to-first {v} l = subst (λ (n : ℕ). v < n) (sym s.events) l
+      to_first : {v : ℕ} → v < Q.events → v < P.events
+      to_first {v} l = subst (λ (n : ℕ). v < n) (sym s.events) l
 
   given_same : (D : Set) → given N P p D ≡ given M Q q D
   unfolding over
@@ -66,28 +66,28 @@ module _ (N : Net) (P : Plan) (p : ℕ) (M : Net) (Q : Plan) (q : ℕ) (s : Same
       sum_ext P.events _ _ (λ v l. ap (on (D v)) (s.takes v l)) ∙ ap (λ (n : ℕ). over n D (taken_by M Q q)) s.events
 
   module _ (order : (u v : ℕ) → Before P u v → Before Q u v) (D : Set) where
-    to-second : {v : ℕ} → v < P.events → v < Q.events
-    to-second {v} l = subst (λ (n : ℕ). v < n) s.events l
+    to_second : {v : ℕ} → v < P.events → v < Q.events
+    to_second {v} l = subst (λ (n : ℕ). v < n) s.events l
 
-    first-prefix : T (prefix Q D) → T (prefix P D)
-    first-prefix t =
-        closed_prefix P D (record { closed = λ u v lu lv b d. (prefix_closed Q D t).closed u v (to-second lu) (to-second lv) (order u v b) d })
+    first_prefix : T (prefix Q D) → T (prefix P D)
+    first_prefix t =
+        closed_prefix P D (record { closed = λ u v lu lv b d. (prefix_closed Q D t).closed u v (to_second lu) (to_second lv) (order u v b) d })
 
-    first-front : (v : ℕ) → T (front Q D v) → T (front P D v)
-    first-front v t =
+    first_front : (v : ℕ) → T (front Q D v) → T (front P D v)
+    first_front v t =
         let f = front_yes Q D v t in
-        yes_front P D v (record { outside = f.outside; ready = λ u l b. f.ready u (to-second l) (order u v b) })
+        yes_front P D v (record { outside = f.outside; ready = λ u l b. f.ready u (to_second l) (order u v b) })
 
-    first-reached : (v : ℕ) → T (reached Q D v) → T (reached P D v)
-    first-reached v t =
+    first_reached : (v : ℕ) → T (reached Q D v) → T (reached P D v)
+    first_reached v t =
         ⊎_elim
         (λ d. yes_or_left (D v) (front P D v) d)
-        (λ f. yes_or_right (D v) (front P D v) (first-front v f))
+        (λ f. yes_or_right (D v) (front P D v) (first_front v f))
         (or_yes (D v) (front Q D v) t)
 
-    first-takes : taken M Q q D ≤ taken N P p D
+    first_takes : taken M Q q D ≤ taken N P p D
     unfolding taken over
-    first-takes =
+    first_takes =
         subst
         (λ (n : ℕ). over n (reached Q D) (taken_by M Q q) ≤ taken N P p D)
         s.events
@@ -98,7 +98,7 @@ module _ (N : Net) (P : Plan) (p : ℕ) (M : Net) (Q : Plan) (q : ℕ) (s : Same
             subst
             (λ (t : ℕ). on (reached Q D v) t ≤ on (reached P D v) (taken_by N P p v))
             (s.takes v l)
-            (on_mono (reached Q D v) (reached P D v) (taken_by N P p v) (first-reached v))
+            (on_mono (reached Q D v) (reached P D v) (taken_by N P p v) (first_reached v))
 
   -- More order never raises the least opening count.
   pub least_order : ((u v : ℕ) → Before P u v → Before Q u v) → least_opening M Q q ≤ least_opening N P p
@@ -109,7 +109,7 @@ module _ (N : Net) (P : Plan) (p : ℕ) (M : Net) (Q : Plan) (q : ℕ) (s : Same
       q
       (least_opening N P p)
       (λ D w t.
-      omega (arith, least_covers N P p D (record { below = λ v d. subst (λ (n : ℕ). v < n) (sym s.events) (w.below v d) }) (first-prefix order D t), first-takes order D, given_same D))
+      omega (arith, least_covers N P p D (record { below = λ v d. subst (λ (n : ℕ). v < n) (sym s.events) (w.below v d) }) (first_prefix order D t), first_takes order D, given_same D))
 
 -- With the same order it is the same, whatever the opening counts are.
 pub least_same : (N : Net) (P : Plan) (p : ℕ) (M : Net) (Q : Plan) (q : ℕ) → SameWeights N P p M Q q → ((u v : ℕ) → Before P u v ↔ Before Q u v)
@@ -148,16 +148,16 @@ module _ (N : Net) (P : Plan) (p : ℕ) (M : Net) (Q : Plan) (q : ℕ) (s : Same
       same
       (prefix P D)
       (prefix Q D)
-      (first-prefix M Q q N P p back (λ u v. (s.order u v).1) D)
-      (first-prefix N P p M Q q s.weights (λ u v. (s.order u v).0) D)
+      (first_prefix M Q q N P p back (λ u v. (s.order u v).1) D)
+      (first_prefix N P p M Q q s.weights (λ u v. (s.order u v).0) D)
 
   front_alike : (D : Set) → front P D ≡ front Q D
   front_alike D =
       set_ext
       (front P D)
       (front Q D)
-      (first-front M Q q N P p back (λ u v. (s.order u v).1) D)
-      (first-front N P p M Q q s.weights (λ u v. (s.order u v).0) D)
+      (first_front M Q q N P p back (λ u v. (s.order u v).1) D)
+      (first_front N P p M Q q s.weights (λ u v. (s.order u v).0) D)
 
   pub tokens_alike : (D : Set) → tokens N P p D ≡ tokens M Q q D
   unfolding tokens

@@ -21,7 +21,7 @@ use Rattle.theory.specs.Least.{taken, taken_split}
 use Rattle.theory.specs.Missing.{supply}
 use Rattle.theory.specs.Prefixes.{reached, front_yes, yes_front, preset_yes, yes_preset, preset_prefix}
 use Rattle.theory.specs.Signs.{tokens_minus, le_minus}
-use Rattle.theory.specs.Skeleton.{before-earlier}
+use Rattle.theory.specs.Skeleton.{before_earlier}
 
 -- ---- in a finite set with a strict order, every member is below a greatest one
 
@@ -109,10 +109,10 @@ module _ (N : Net) (P : Plan) (p : ℕ) (S : Sound P) where
   pub prefixes_cuts : ((D : Set) → IsPrefix P D → taken N P p D ≤ supply N P p D) → Executable N P p
   unfolding taken
   prefixes_cuts h =
-      record { cuts = λ C c. (covered C).1 (omega (arith, h (preset P C) (preset_prefix P S C), taken_split N P p (preset P C), in-front C c.coset)) }
+      record { cuts = λ C c. (covered C).1 (omega (arith, h (preset P C) (preset_prefix P S C), taken_split N P p (preset P C), in_front C c.coset)) }
     where
-      in-front : (C : Set) → IsCoset P C → over P.events C (taken_by N P p) ≤ over P.events (front P (preset P C)) (taken_by N P p)
-      in-front C c = over_mono P.events C (front P (preset P C)) (taken_by N P p) (λ v l t. cut_front C c v t)
+      in_front : (C : Set) → IsCoset P C → over P.events C (taken_by N P p) ≤ over P.events (front P (preset P C)) (taken_by N P p)
+      in_front C c = over_mono P.events C (front P (preset P C)) (taken_by N P p) (λ v l t. cut_front C c v t)
 
   module _ (D : Set) (d : IsPrefix P D) where
     U : Set
@@ -127,9 +127,9 @@ module _ (N : Net) (P : Plan) (p : ℕ) (S : Sound P) where
       reaches : T (U v)
       last : (w : ℕ) → w < P.events → T (U w) → Before P v w → ⊥
 
-    maximal-yes : (v : ℕ) → T (maximal v) → IsMaximal v
+    maximal_yes : (v : ℕ) → T (maximal v) → IsMaximal v
     unfolding maximal
-    maximal-yes v t =
+    maximal_yes v t =
         let h = and_yes (ltb v P.events) _ t in
         let k = and_yes (U v) _ h.1 in
         record {
@@ -138,9 +138,9 @@ module _ (N : Net) (P : Plan) (p : ℕ) (S : Sound P) where
           last = λ w l u b. T_not (any P.events (λ z. U z && before P v z)) k.1 (yes_any P.events _ w l (yes_and (U w) (before P v w) u ((before_test P v w).1 b)));
         }
 
-    yes-maximal : (v : ℕ) → IsMaximal v → T (maximal v)
+    yes_maximal : (v : ℕ) → IsMaximal v → T (maximal v)
     unfolding maximal
-    yes-maximal v m =
+    yes_maximal v m =
         yes_and
         (ltb v P.events)
         _
@@ -158,25 +158,25 @@ module _ (N : Net) (P : Plan) (p : ℕ) (S : Sound P) where
             m.last w.0 w.1 b.0 ((before_test P v w.0).0 b.1)
 
     -- all that is before an event reached is done
-    done-before : (u v : ℕ) → Before P u v → T (U v) → T (D u)
+    done_before : (u v : ℕ) → Before P u v → T (U v) → T (D u)
     unfolding U
-    done-before u v b t =
+    done_before u v b t =
         ⊎_elim
         (λ k. d.closed u v b k)
-        (λ f. (front_yes P D v f).ready u (before-earlier P S b) b)
+        (λ f. (front_yes P D v f).ready u (before_earlier P S b) b)
         (or_yes (D v) (front P D v) t)
 
     -- an event of the front is maximal
-    front-maximal : (v : ℕ) → v < P.events → T (front P D v) → IsMaximal v
+    front_maximal : (v : ℕ) → v < P.events → T (front P D v) → IsMaximal v
     unfolding U
-    front-maximal v l f =
-        record { event = l; reaches = yes_or_right (D v) (front P D v) f; last = λ w m u b. T_not (D v) (front_yes P D v f).outside (done-before v w b u) }
+    front_maximal v l f =
+        record { event = l; reaches = yes_or_right (D v) (front P D v) f; last = λ w m u b. T_not (D v) (front_yes P D v f).outside (done_before v w b u) }
 
     -- every event reached is maximal or before a maximal one
     under : (v : ℕ) → v < P.events → T (U v) → T (maximal v) ⊎ T (preset P maximal v)
     under v l u =
         let w = find_top P.events (before P) joins strict U v l u in
-        let m : T (maximal w.top) = yes-maximal w.top (record {
+        let m : T (maximal w.top) = yes_maximal w.top (record {
           event = w.below;
           reaches = w.member;
           last = λ y k z b. w.last y k z ((before_test P w.top y).1 b);
@@ -199,13 +199,13 @@ module _ (N : Net) (P : Plan) (p : ℕ) (S : Sound P) where
         (λ r. inr (w.top, w.below, f, (before_test P w.top v).0 r))
         w.above
 
-    maximal-coset : IsCoset P maximal
-    maximal-coset =
-        record { events = λ v t. (maximal-yes v t).event; unordered = λ u v s t b. (maximal-yes u s).last v (maximal-yes v t).event (maximal-yes v t).reaches b }
+    maximal_coset : IsCoset P maximal
+    maximal_coset =
+        record { events = λ v t. (maximal_yes v t).event; unordered = λ u v s t b. (maximal_yes u s).last v (maximal_yes v t).event (maximal_yes v t).reaches b }
 
-    maximal-cut : IsCut P maximal
+    maximal_cut : IsCut P maximal
     unfolding U
-    maximal-cut = record { coset = maximal-coset; greatest = λ E e h v t. grown E e h v t }
+    maximal_cut = record { coset = maximal_coset; greatest = λ E e h v t. grown E e h v t }
       where
         reachedCase : (E : Set) → IsCoset P E → ((v : ℕ) → T (maximal v) → T (E v)) → (v : ℕ) → T (E v) → T (U v) → T (maximal v)
         reachedCase E e h v t u =
@@ -221,14 +221,14 @@ module _ (N : Net) (P : Plan) (p : ℕ) (S : Sound P) where
             (λ k.
             ⊎_elim
             (λ f. reachedCase E e h v t (yes_or_right (D v) (front P D v) f))
-            (λ w. absurd (e.unordered w.0 v (h w.0 (yes-maximal w.0 (front-maximal w.0 w.1 w.2))) t w.3))
+            (λ w. absurd (e.unordered w.0 v (h w.0 (yes_maximal w.0 (front_maximal w.0 w.1 w.2))) t w.3))
             (beyond v (e.events v t) k))
             (decide (D v))
 
     -- what is taken up to the cut is all that the done set and its front take, and no more is given
-    cut-taken : taken N P p D ≤ taken_up_to N P p maximal
+    cut_taken : taken N P p D ≤ taken_up_to N P p maximal
     unfolding taken over U
-    cut-taken =
+    cut_taken =
         let t : ℕ → ℕ = taken_by N P p in
         omega (
           arith,
@@ -243,14 +243,14 @@ module _ (N : Net) (P : Plan) (p : ℕ) (S : Sound P) where
         each : (v : ℕ) → v < P.events → on (reached P D v) (taken_by N P p v) ≤ on (maximal v) (taken_by N P p v) + on (preset P maximal v) (taken_by N P p v)
         each v l = either-on (reached P D v) (maximal v) (preset P maximal v) (taken_by N P p v) (under v l)
 
-    cut-supply : supply N P p (preset P maximal) ≤ supply N P p D
+    cut_supply : supply N P p (preset P maximal) ≤ supply N P p D
     unfolding supply
-    cut-supply =
-        omega (arith, over_mono P.events (preset P maximal) D (given_by N P p) (λ v l t. let w = preset_yes P S maximal v t in done-before v w.0 w.2 (maximal-yes w.0 w.1).reaches))
+    cut_supply =
+        omega (arith, over_mono P.events (preset P maximal) D (given_by N P p) (λ v l t. let w = preset_yes P S maximal v t in done_before v w.0 w.2 (maximal_yes w.0 w.1).reaches))
 
   -- What a done set and its front lack is lacking at some cut too.
   pub some_cut : (D : Set) → IsPrefix P D → (C : Set) × IsCut P C × (taken N P p D + supply N P p (preset P C) ≤ taken_up_to N P p C + supply N P p D)
-  some_cut D d = (maximal D d, maximal-cut D d, omega (arith, cut-taken D d, cut-supply D d))
+  some_cut D d = (maximal D d, maximal_cut D d, omega (arith, cut_taken D d, cut_supply D d))
 
   pub cuts_prefixes : Executable N P p → (D : Set) → IsPrefix P D → taken N P p D ≤ supply N P p D
   cuts_prefixes x D d = let w = some_cut D d in omega (arith, (covered w.0).0 (x.cuts w.0 w.1), w.2)

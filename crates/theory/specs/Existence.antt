@@ -85,17 +85,17 @@ module _ (n : ℕ) (d : Demand) where
         tops = λ v l. omega arith;
         bottoms = λ v l. omega arith;
         unused = λ i l t. refl;
-        total = omega (arith, f.fits Low High low-within high-within whole, sum_ext n _ (λ v. least v + kept v) asked, sum_add n least kept);
+        total = omega (arith, f.fits Low High low_within high_within whole, sum_ext n _ (λ v. least v + kept v) asked, sum_add n least kept);
       }
     where
       kept : ℕ → ℕ
       kept v = pick (Low v) (High v) (d.given v) (d.extra v)
 
-      low-within : Within n Low
-      low-within = record { below = λ v t. ltb→lt v n (and_yes (ltb v n) _ t).0 }
+      low_within : Within n Low
+      low_within = record { below = λ v t. ltb→lt v n (and_yes (ltb v n) _ t).0 }
 
-      high-within : Within n High
-      high-within = record { below = λ v t. ltb→lt v n (and_yes (ltb v n) _ t).0 }
+      high_within : Within n High
+      high_within = record { below = λ v t. ltb→lt v n (and_yes (ltb v n) _ t).0 }
 
       whole : Stage 0 a b used Low High
       whole = record {

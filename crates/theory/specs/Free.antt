@@ -114,8 +114,8 @@ module _ (P : Plan) where
         (λ less. chain (in_a_row u v less (le_of_lt l)) (next v l))
         (λ e. subst (λ (x : ℕ). Before P x (suc v)) (sym e) (next v l))
 
-    pub row-chain : IsChain P
-    row-chain =
+    pub row_chain : IsChain P
+    row_chain =
         record {
           ordered = λ u v k l ne.
               ⊎_elim

@@ -10,7 +10,7 @@ use Rattle.finite.specs.Sum.{on, over, on_yes, on_no, on_le, over_either}
 use Rattle.plan.specs.Net.{Net, Plan, taken_by, given_by}
 use Rattle.plan.specs.Order.{Sound}
 use Rattle.plan.specs.Prefix.{IsPrefix, prefix, front, above0, need, least_opening}
-use Rattle.theory.specs.Prefixes.{closed_prefix, prefix-is, within, reached, front_yes}
+use Rattle.theory.specs.Prefixes.{closed_prefix, prefix_is, within, reached, front_yes}
 use Rattle.theory.specs.Signs.{tokens_minus, above0_minus}
 
 -- ---- the greatest difference a D − b D over the sets that pass a test, or 0 if none is above 0
@@ -78,12 +78,12 @@ module _ (N : Net) (P : Plan) (p : ℕ) where
   least_is_least = greatest_within P.events (prefix P) (need N P p) taken given need_is
 
   module _ (S : Sound P) where
-    pub least-bounds : (D : Set) → IsPrefix P D → taken D ≤ least_opening N P p + given D
-    least-bounds D d = least_covers D (within P D d) ((prefix-is P D S (within P D d)).1 d)
+    pub least_bounds : (D : Set) → IsPrefix P D → taken D ≤ least_opening N P p + given D
+    least_bounds D d = least_covers D (within P D d) ((prefix_is P D S (within P D d)).1 d)
 
-    pub least-attained : (D : Set) × IsPrefix P D × (taken D - given D ≡ least_opening N P p)
+    pub least_attained : (D : Set) × IsPrefix P D × (taken D - given D ≡ least_opening N P p)
     unfolding least_opening
-    least-attained =
+    least_attained =
         let none : Within P.events empty = record { below = λ v t. absurd t } in
         let w = greatest_reached P.events (prefix P) (need N P p) taken given need_is empty none (closed_prefix P empty (record { closed = λ u v lu lv b d. d })) in
-        (w.0, (prefix-is P w.0 S w.1).0 w.2, w.3)
+        (w.0, (prefix_is P w.0 S w.1).0 w.2, w.3)

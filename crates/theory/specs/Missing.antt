@@ -10,7 +10,7 @@ use Rattle.finite.specs.Sum.{sum, over, over_all}
 use Rattle.plan.specs.Net.{Net, Plan, taken_by}
 use Rattle.plan.specs.Order.{Sound}
 use Rattle.plan.specs.Prefix.{IsPrefix, prefix, front, tokens, step_lack, lack, above0, missing, need, least_opening}
-use Rattle.theory.specs.Least.{greatest_covers, greatest_within, taken, given, taken_split, need_is, least_covers, least_is_least, least-bounds, least-attained}
+use Rattle.theory.specs.Least.{greatest_covers, greatest_within, taken, given, taken_split, need_is, least_covers, least_is_least, least_bounds, least_attained}
 use Rattle.theory.specs.Prefixes.{reached}
 use Rattle.theory.specs.Signs.{lack_minus, less_minus, above0_minus}
 
@@ -47,17 +47,17 @@ module _ (N : Net) (P : Plan) (p : ℕ) where
       (omega (arith, least_is_least N P p (missing N P p + N.opening p) (λ D w t. omega (arith, greatest_covers P.events (prefix P) (lack N P p) (taken N P p) supply lack_is D w t))))
 
   module _ (S : Sound P) where
-    pub missing-bounds : (D : Set) → IsPrefix P D → taken N P p D ≤ missing N P p + supply D
+    pub missing_bounds : (D : Set) → IsPrefix P D → taken N P p D ≤ missing N P p + supply D
     unfolding supply
-    missing-bounds D d = omega (arith, least-bounds N P p S D d, missing_opening)
+    missing_bounds D d = omega (arith, least_bounds N P p S D d, missing_opening)
 
-    pub missing-attained : (D : Set) × IsPrefix P D × (taken N P p D - supply D ≡ missing N P p)
+    pub missing_attained : (D : Set) × IsPrefix P D × (taken N P p D - supply D ≡ missing N P p)
     unfolding supply
-    missing-attained = let w = least-attained N P p S in (w.0, w.1, omega (arith, w.2, missing_opening))
+    missing_attained = let w = least_attained N P p S in (w.0, w.1, omega (arith, w.2, missing_opening))
 
     -- no more is asked for than all events take
-    pub least-most : least_opening N P p ≤ sum P.events (taken_by N P p)
+    pub least_most : least_opening N P p ≤ sum P.events (taken_by N P p)
     unfolding taken
-    least-most =
-        let w = least-attained N P p S in
+    least_most =
+        let w = least_attained N P p S in
         omega (arith, w.2, over_all P.events (reached P w.0) (taken_by N P p))

@@ -17,9 +17,9 @@ use Rattle.plan.specs.Prefix.{missing, least_opening}
 use Rattle.plan.specs.Flow.{Flow, share, shares, inflow, outflow, rule1, rule2, rule4, otherwise_valid, overrun}
 use Rattle.theory.specs.Duality.{Passes, rules_pass, passes_rules, weak_duality}
 use Rattle.theory.specs.Existence.{Demand, Fits, Meets, flow_exists}
-use Rattle.theory.specs.Least.{taken, least-bounds, least-attained}
+use Rattle.theory.specs.Least.{taken, least_bounds, least_attained}
 use Rattle.theory.specs.Missing.{missing_opening}
-use Rattle.theory.specs.Prefixes.{reached, stage-prefix, stage-reached}
+use Rattle.theory.specs.Prefixes.{reached, stage_prefix, stage_reached}
 use Rattle.theory.specs.Stage.{picked_same, picked_only}
 
 module _ (N : Net) (P : Plan) (p : ℕ) (S : Sound P) where
@@ -29,7 +29,7 @@ module _ (N : Net) (P : Plan) (p : ℕ) (S : Sound P) where
   shares_bounds x t =
       let h = and_yes (rule1 N P p x && rule2 N P p x) (rule4 P x) t in
       let k = and_yes (rule1 N P p x) (rule2 N P p x) h.0 in
-      let w = least-attained N P p S in
+      let w = least_attained N P p S in
       omega (arith, w.2, weak_duality N P p S x (rules_pass N P p x k.0 k.1) w.0 w.1)
 
   -- the flow that is asked for, in the words of `Existence`
@@ -43,10 +43,10 @@ module _ (N : Net) (P : Plan) (p : ℕ) (S : Sound P) where
         fits = λ D U w z s.
             omega (
               arith,
-              least-bounds N P p S D (stage-prefix P S D U w s),
+              least_bounds N P p S D (stage_prefix P S D U w s),
               picked_same P.events D U (taken_by N P p) s.inside,
               picked_only P.events D U (given_by N P p),
-              over_mono P.events U (reached P D) (taken_by N P p) (λ v l u. stage-reached P S D U w s v u),
+              over_mono P.events U (reached P D) (taken_by N P p) (λ v l u. stage_reached P S D U w s v u),
             );
       }
 

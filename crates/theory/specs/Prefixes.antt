@@ -10,7 +10,7 @@ use Rattle.plan.specs.Order.{Before, pair, chain, before, Sound, skeleton}
 use Rattle.plan.specs.Closure.{before_test}
 use Rattle.plan.specs.Prefix.{IsPrefix, prefix, front, full}
 use Rattle.plan.specs.Cut.{preset}
-use Rattle.theory.specs.Skeleton.{before-later, before-earlier, last-link, between, earlier-end}
+use Rattle.theory.specs.Skeleton.{before_later, before_earlier, last_link, between, earlier_end}
 use Rattle.theory.specs.Stage.{Stage, either}
 
 -- the test of a done set, without regard to what the pairs name
@@ -53,9 +53,9 @@ module _ (P : Plan) (D : Set) where
 
   -- in a plan whose pairs name events the test says what the definition says
   module _ (S : Sound P) where
-    pub prefix-is : Within P.events D → T (prefix P D) ↔ IsPrefix P D
-    prefix-is w = (
-      λ t. record { events = w.below; closed = λ u v b d. (prefix_closed t).closed u v (before-earlier P S b) (before-later P S b) b d },
+    pub prefix_is : Within P.events D → T (prefix P D) ↔ IsPrefix P D
+    prefix_is w = (
+      λ t. record { events = w.below; closed = λ u v b d. (prefix_closed t).closed u v (before_earlier P S b) (before_later P S b) b d },
       λ p. closed_prefix (record { closed = λ u v lu lv b d. p.closed u v b d }),
     )
 
@@ -70,7 +70,7 @@ empty_prefix P = record { events = λ v t. absurd t; closed = λ u v b t. absurd
 module _ (P : Plan) (S : Sound P) where
   pub full_prefix : IsPrefix P (full P)
   full_prefix =
-      record { events = λ v t. ltb→lt v P.events t; closed = λ u v b t. lt→ltb u P.events (before-earlier P S b) }
+      record { events = λ v t. ltb→lt v P.events t; closed = λ u v b t. lt→ltb u P.events (before_earlier P S b) }
 
   pub preset_yes : (C : Set) (v : ℕ) → T (preset P C v) → (w : ℕ) × T (C w) × Before P v w
   unfolding preset
@@ -81,11 +81,11 @@ module _ (P : Plan) (S : Sound P) where
 
   pub yes_preset : (C : Set) (v w : ℕ) → T (C w) → Before P v w → T (preset P C v)
   unfolding preset
-  yes_preset C v w c b = yes_any P.events _ w (before-later P S b) (yes_and (C w) (before P v w) c ((before_test P v w).1 b))
+  yes_preset C v w c b = yes_any P.events _ w (before_later P S b) (yes_and (C w) (before P v w) c ((before_test P v w).1 b))
 
   pub preset_prefix : (C : Set) → IsPrefix P (preset P C)
   preset_prefix C =
-      record { events = λ v t. before-earlier P S (preset_yes C v t).2; closed = λ u v b t. let w = preset_yes C v t in yes_preset C u w.0 w.1 (chain b w.2) }
+      record { events = λ v t. before_earlier P S (preset_yes C v t).2; closed = λ u v b t. let w = preset_yes C v t in yes_preset C u w.0 w.1 (chain b w.2) }
 
 -- a done set with its front
 abbrev pub reached : Plan → Set → Set
@@ -109,22 +109,22 @@ module _ (P : Plan) (S : Sound P) (D : Set) where
     closes_by : (k u v : ℕ) → between P S u v < k → Before P u v → T (U v) → T (D u)
     closes_by zero u v h b t = absurd (not-suc-le-zero h)
     closes_by (suc k) u v h b t =
-        let i = last-link P S b in
+        let i = last_link P S b in
         let e : ℕ = P.earlier i.link.index in
         let d : T (D e) = s.into i.link.index i.link.named i.bare (subst (λ (x : ℕ). T (U x)) (sym i.link.ends) t) in
         ⊎_elim
         (λ same. subst (λ (x : ℕ). T (D x)) same d)
-        (λ c. closes_by k u e (omega (arith, earlier-end P S u e v c (subst (λ (x : ℕ). Before P e x) i.link.ends (pair i.link.index i.link.named)))) c (s.inside e d))
+        (λ c. closes_by k u e (omega (arith, earlier_end P S u e v c (subst (λ (x : ℕ). Before P e x) i.link.ends (pair i.link.index i.link.named)))) c (s.inside e d))
         i.link.starts
 
     closes : (u v : ℕ) → Before P u v → T (U v) → T (D u)
     closes u v b t = closes_by (suc (between P S u v)) u v (lt-suc_self _) b t
 
-    pub stage-prefix : IsPrefix P D
-    stage-prefix = record { events = w.below; closed = λ u v b d. closes u v b (s.inside v d) }
+    pub stage_prefix : IsPrefix P D
+    stage_prefix = record { events = w.below; closed = λ u v b d. closes u v b (s.inside v d) }
 
-    pub stage-reached : (v : ℕ) → T (U v) → T (reached P D v)
-    stage-reached v t =
+    pub stage_reached : (v : ℕ) → T (U v) → T (reached P D v)
+    stage_reached v t =
         ⊎_elim
         (λ d. yes_or_left (D v) (front P D v) d)
         (λ n. yes_or_right (D v) (front P D v) (yes_front P D v (record { outside = n; ready = λ u l b. closes u v b t })))

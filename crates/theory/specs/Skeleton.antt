@@ -31,13 +31,13 @@ module _ (P : Plan) where
       record { index = k.index; named = k.named; ends = k.ends; starts = inr (onward b k.starts) }
 
   module _ (S : Sound P) where
-    pub before-later : {u v : ℕ} → Before P u v → v < P.events
-    before-later (pair i l) = S.later_named i l
-    before-later (chain b c) = before-later c
+    pub before_later : {u v : ℕ} → Before P u v → v < P.events
+    before_later (pair i l) = S.later_named i l
+    before_later (chain b c) = before_later c
 
-    pub before-earlier : {u v : ℕ} → Before P u v → u < P.events
-    before-earlier (pair i l) = S.earlier_named i l
-    before-earlier (chain b c) = before-earlier b
+    pub before_earlier : {u v : ℕ} → Before P u v → u < P.events
+    before_earlier (pair i l) = S.earlier_named i l
+    before_earlier (chain b c) = before_earlier b
 
     -- how many events lie between w and v
     pub between : ℕ → ℕ → ℕ
@@ -54,7 +54,7 @@ module _ (P : Plan) where
         (λ z. on (before P w z && before P z v) 1)
         (λ z l. on_mono (before P w' z && before P z v') (before P w z && before P z v) 1 (λ t. let h = both w' z v' t in let k = sub z h.0 h.1 in yes_both w z v k.0 k.1))
         y
-        (before-earlier c)
+        (before_earlier c)
         (omega (arith, on_no (before P w' y && before P y v') 1 (λ t. let h = both w' y v' t in none h.0 h.1), on_yes (before P w y && before P y v) 1 (yes_both w y v b c)))
       where
         both : (a z d : ℕ) → T (before P a z && before P z d) → Before P a z × Before P z d
@@ -63,11 +63,11 @@ module _ (P : Plan) where
         yes_both : (a z d : ℕ) → Before P a z → Before P z d → T (before P a z && before P z d)
         yes_both a z d b c = yes_and (before P a z) (before P z d) ((before_test P a z).1 b) ((before_test P z d).1 c)
 
-    pub later-start : (w y v : ℕ) → Before P w y → Before P y v → between y v < between w v
-    later-start w y v b c = fewer w v y v y (λ z h k. (chain b h, k)) b c (λ h k. S.acyclic y h)
+    pub later_start : (w y v : ℕ) → Before P w y → Before P y v → between y v < between w v
+    later_start w y v b c = fewer w v y v y (λ z h k. (chain b h, k)) b c (λ h k. S.acyclic y h)
 
-    pub earlier-end : (w y v : ℕ) → Before P w y → Before P y v → between w y < between w v
-    earlier-end w y v b c = fewer w v w y y (λ z h k. (h, chain k c)) b c (λ h k. S.acyclic y k)
+    pub earlier_end : (w y v : ℕ) → Before P w y → Before P y v → between w y < between w v
+    earlier_end w y v b c = fewer w v w y y (λ z h k. (h, chain k c)) b c (λ h k. S.acyclic y k)
 
     -- a skeleton pair that ends where the pair i does and starts no earlier
     pub record Link (from v : ℕ) : Type 0 where
@@ -75,8 +75,8 @@ module _ (P : Plan) where
       pub bare : T (skeleton P link.index)
 
     -- from a later start, the same link
-    earlier-start : (u w v x : ℕ) → Before P u w → x ≡ v → Link w x → Link u v
-    earlier-start u w v x b e k =
+    earlier_start : (u w v x : ℕ) → Before P u w → x ≡ v → Link w x → Link u v
+    earlier_start u w v x b e k =
         record { link = record { index = k.link.index; named = k.link.named; ends = k.link.ends ∙ e; starts = inr (onward b k.link.starts) }; bare = k.bare }
 
     -- an event between the ends of the pair i leads to a pair with fewer events between its ends
@@ -90,8 +90,8 @@ module _ (P : Plan) where
         let r = and_yes (before P (P.earlier i) z.0) (before P z.0 (P.later i)) z.2 in
         let j = last_pair ((before_test P z.0 (P.later i)).0 r.1) in
         let b : Before P (P.earlier i) (P.earlier j.index) = onward ((before_test P (P.earlier i) z.0).0 r.0) j.starts in
-        let c = later-start (P.earlier i) (P.earlier j.index) (P.later j.index) b (pair j.index j.named) in
-        earlier-start
+        let c = later_start (P.earlier i) (P.earlier j.index) (P.later j.index) b (pair j.index j.named) in
+        earlier_start
         (P.earlier i)
         (P.earlier j.index)
         (P.later i)
@@ -103,11 +103,11 @@ module _ (P : Plan) where
         (decide (any P.events (λ w. before P (P.earlier i) w && before P w (P.later i))))
 
     -- Whatever is before v is, or is before, the start of a skeleton pair that ends at v.
-    pub last-link : {u v : ℕ} → Before P u v → Link u v
-    last-link {u} {v} b =
+    pub last_link : {u v : ℕ} → Before P u v → Link u v
+    last_link {u} {v} b =
         let j = last_pair b in
         let k = descend (suc (between (P.earlier j.index) (P.later j.index))) j.index j.named (lt-suc_self _) in
         ⊎_elim
         (λ e. subst₂ Link e j.ends k)
-        (λ c. earlier-start u (P.earlier j.index) v (P.later j.index) c j.ends k)
+        (λ c. earlier_start u (P.earlier j.index) v (P.later j.index) c j.ends k)
         j.starts

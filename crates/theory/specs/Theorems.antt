@@ -21,9 +21,9 @@ use Rattle.plan.specs.Flow.{Flow, rule1, rule2, rule3, rule4, valid, otherwise_v
 use Rattle.plan.specs.Compare.{with_more, opens_with, MoreOrder, ImpliedPairs, SameAt, SameWeights, SamePlace}
 use Rattle.theory.specs.Comparisons.{least_same, missing_more, missing_opens, missing_order, missing_same, least_alike, missing_alike, lack_alike, smallest_alike, end_alike}
 use Rattle.theory.specs.Cuts.{taken_up_to, some_cut, prefixes_cuts, cuts_prefixes}
-use Rattle.theory.specs.Free.{free_twice, free_order, free_same, implied_before, chain_free, free_chain, row-chain, unordered_free}
-use Rattle.theory.specs.Least.{taken, given, need_is, need_above0, least-bounds, least-attained}
-use Rattle.theory.specs.Missing.{supply, step_lack_is, lack_is, lack_above0, lack_need, missing_opening, missing-bounds, missing-attained, least-most}
+use Rattle.theory.specs.Free.{free_twice, free_order, free_same, implied_before, chain_free, free_chain, row_chain, unordered_free}
+use Rattle.theory.specs.Least.{taken, given, need_is, need_above0, least_bounds, least_attained}
+use Rattle.theory.specs.Missing.{supply, step_lack_is, lack_is, lack_above0, lack_need, missing_opening, missing_bounds, missing_attained, least_most}
 use Rattle.theory.specs.Overrun.{shares_bounds, shares_attained, overrun_bounds, overrun_attained}
 use Rattle.theory.specs.Prefixes.{empty_prefix, full_prefix}
 use Rattle.theory.specs.Signs.{le_minus, minus_below}
@@ -153,7 +153,7 @@ free_count_lem P =
       implied_added = λ Q more. free_same P Q more.events (implied_before P Q more);
       implied_dropped = λ Q more. sym (free_same Q P more.events (implied_before Q P more));
       none_free = (free_chain P, chain_free P);
-      in_a_row = λ next. chain_free P (row-chain P next);
+      in_a_row = λ next. chain_free P (row_chain P next);
       all_free = unordered_free P;
       more_order = λ Q m. free_order P Q m.events m.order;
     }
@@ -185,13 +185,13 @@ module _ (N : Net) (P : Plan) (p : ℕ) (S : Sound P) where
   pub missing_is : IsMissing N P p (missing N P p)
   missing_is =
       record {
-        bounds = λ D d. below_above0 (lack N P p D) (missing N P p) (omega (arith, missing-bounds N P p S D d, lack_above0 N P p D));
+        bounds = λ D d. below_above0 (lack N P p D) (missing N P p) (omega (arith, missing_bounds N P p S D d, lack_above0 N P p D));
         attained = ⊎_elim inl (λ l. inr (reached l)) (eq-zero-or-pos (missing N P p));
       }
     where
       reached : 0 < missing N P p → (D : Set) × IsPrefix P D × (lack N P p D ≡ pos (missing N P p))
       reached l =
-          let w = missing-attained N P p S in
+          let w = missing_attained N P p S in
           (w.0, w.1, positive (lack N P p w.0) (missing N P p) (omega (arith, w.2, lack_above0 N P p w.0)) l)
 
   pub hardest : Hardest N P p
@@ -219,10 +219,10 @@ module _ (N : Net) (P : Plan) (p : ℕ) (S : Sound P) where
   )
 
   prefixes_run : ((D : Set) → IsPrefix P D → taken N P p D ≤ supply N P p D) → T (runs_at N P p)
-  prefixes_run h = let w = missing-attained N P p S in (runs_none N P p).1 (omega (arith, w.2, h w.0 w.1))
+  prefixes_run h = let w = missing_attained N P p S in (runs_none N P p).1 (omega (arith, w.2, h w.0 w.1))
 
   run_prefixes : T (runs_at N P p) → (D : Set) → IsPrefix P D → taken N P p D ≤ supply N P p D
-  run_prefixes t D d = omega (arith, (runs_none N P p).0 t, missing-bounds N P p S D d)
+  run_prefixes t D d = omega (arith, (runs_none N P p).0 t, missing_bounds N P p S D d)
 
   -- a flow otherwise valid that doesn't overrun is valid, and the other way round
   valid_is : (x : Flow) → T (valid N P p x) ↔ (T (otherwise_valid N P p x) × (overrun N P p x ≡ 0))
@@ -270,18 +270,18 @@ module _ (N : Net) (P : Plan) (p : ℕ) (S : Sound P) where
   at_empty e = (
     empty,
     empty_prefix P,
-    need_empty ∙ ap pos (omega (arith, need_above0 N P p empty, least-bounds N P p S empty (empty_prefix P))),
+    need_empty ∙ ap pos (omega (arith, need_above0 N P p empty, least_bounds N P p S empty (empty_prefix P))),
   )
 
   above_empty : 0 < least_opening N P p → (D : Set) × IsPrefix P D × (need N P p D ≡ pos (least_opening N P p))
   above_empty l =
-      let w = least-attained N P p S in
+      let w = least_attained N P p S in
       (w.0, w.1, positive (need N P p w.0) (least_opening N P p) (omega (arith, w.2, need_above0 N P p w.0)) l)
 
   pub least_opening_lem : LeastOpening N P p
   least_opening_lem =
       record {
-        need_bounds = λ D d. below_above0 (need N P p D) (least_opening N P p) (omega (arith, least-bounds N P p S D d, need_above0 N P p D));
+        need_bounds = λ D d. below_above0 (need N P p D) (least_opening N P p) (omega (arith, least_bounds N P p S D d, need_above0 N P p D));
         need_reached = ⊎_elim at_empty above_empty (eq-zero-or-pos (least_opening N P p));
         runs_from = λ k. (
           λ t. omega (arith, missing_opens N P p k, (runs_none (opens_with N p k) P p).0 t),
@@ -329,7 +329,7 @@ module _ (N : Net) (P : Plan) (p : ℕ) (S : Sound P) where
         not_undercut = λ x t. (from_least (shares P x)).0 (least.not_undercut x t);
         missing_is = missing_spare N P p;
         at_most = spare_most N P p o (omega arith);
-        at_least = spare_least N P p (sum P.events (taken_by N P p)) (least-most N P p S);
+        at_least = spare_least N P p (sum P.events (taken_by N P p)) (least_most N P p S);
         more_tokens = spare_more N P p;
         more_order = λ Q m. spare_order N P Q p m;
         other_places = λ M l s. sym (spare_same N M P p l s);

@@ -15,10 +15,10 @@ use Rattle.plan.specs.Net.{Net, Plan, taken_by, given_by}
 use Rattle.plan.specs.Order.{Before, chain, Sound}
 use Rattle.plan.specs.Prefix.{IsPrefix, front, missing, least_opening, smallest, lack, above0}
 use Rattle.plan.specs.Cut.{preset}
-use Rattle.theory.specs.Least.{taken, given, least-bounds, least-attained}
+use Rattle.theory.specs.Least.{taken, given, least_bounds, least_attained}
 use Rattle.theory.specs.Missing.{supply, missing_opening, lack_above0}
 use Rattle.theory.specs.Prefixes.{reached, front_yes, yes_front, preset_yes, yes_preset}
-use Rattle.theory.specs.Skeleton.{before-earlier}
+use Rattle.theory.specs.Skeleton.{before_earlier}
 use Rattle.theory.specs.Smallest.{positive, smallest_is}
 
 -- y u w tokens that u gives and w takes, only where u is before w. What u gives to nobody is free, and what w gets from nobody is
@@ -60,16 +60,16 @@ module _ (N : Net) (P : Plan) (p : ℕ) (S : Sound P) (y : ℕ → ℕ → ℕ) 
 
   from_given : (D : Set) → from D ≤ over P.events D (given_by N P p)
   unfolding from over
-  from_given D = sum_mono P.events _ _ (λ u l. on-less (D u) (sum P.events (λ w. y u w)) (given_by N P p u) (omega (arith, f.gives u l)))
+  from_given D = sum_mono P.events _ _ (λ u l. on_less (D u) (sum P.events (λ w. y u w)) (given_by N P p u) (omega (arith, f.gives u l)))
     where
-      on-less : (b : Bool) (x z : ℕ) → x ≤ z → on b x ≤ on b z
-      on-less true x z h = h
-      on-less false x z h = omega arith
+      on_less : (b : Bool) (x z : ℕ) → x ≤ z → on b x ≤ on b z
+      on_less true x z h = h
+      on_less false x z h = omega arith
 
   -- what a done set and its front get comes from the done set
   module _ (D : Set) (d : IsPrefix P D) where
-    comes-from : (u : ℕ) → u < P.events → sum P.events (λ w. on (reached P D w) (y u w)) ≤ on (D u) (sum P.events (λ w. y u w))
-    comes-from u l =
+    comes_from : (u : ℕ) → u < P.events → sum P.events (λ w. on (reached P D w) (y u w)) ≤ on (D u) (sum P.events (λ w. y u w))
+    comes_from u l =
         ⊎_elim
         (λ t. omega (arith, on_yes (D u) (sum P.events (λ w. y u w)) t, sum_mono P.events (λ w. on (reached P D w) (y u w)) (λ w. y u w) (λ w k. on_le (reached P D w) (y u w))))
         (λ t. omega (arith, sum_zero P.events (λ w. on (reached P D w) (y u w)) (λ w k. none t w k)))
@@ -85,42 +85,42 @@ module _ (N : Net) (P : Plan) (p : ℕ) (S : Sound P) (y : ℕ → ℕ → ℕ) 
             (λ h. on_no (reached P D w) (y u w) (λ r. T_not (D u) t (before-in w (f.ordered u w l k h) r)))
             (eq-zero-or-pos (y u w))
 
-    into-from : into (reached P D) ≤ from D
+    into_from : into (reached P D) ≤ from D
     unfolding into from
-    into-from = sum_mono P.events _ _ comes-from
+    into_from = sum_mono P.events _ _ comes_from
 
     -- No done set and its front take more than all the shares and what the done set gives.
     pub duality : taken N P p D ≤ sum P.events share + given N P p D
     unfolding taken
-    duality = omega (arith, taken_into (reached P D), into-from, from_given D, over_all P.events (reached P D) share)
+    duality = omega (arith, taken_into (reached P D), into_from, from_given D, over_all P.events (reached P D) share)
 
     -- where all of that is used up, the done set and the events reached are closed
     module _ (full : sum P.events share + given N P p D ≤ taken N P p D) where
-      shares-in : (w : ℕ) → w < P.events → on (reached P D w) (share w) ≡ share w
+      shares_in : (w : ℕ) → w < P.events → on (reached P D w) (share w) ≡ share w
       unfolding taken over
-      shares-in =
+      shares_in =
           sum_tight
           P.events
           (λ w. on (reached P D w) (share w))
           share
           (λ w l. on_le (reached P D w) (share w))
-          (omega (arith, full, taken_into (reached P D), into-from, from_given D))
+          (omega (arith, full, taken_into (reached P D), into_from, from_given D))
 
-      gifts-in : (u : ℕ) → u < P.events → sum P.events (λ w. on (reached P D w) (y u w)) ≡ on (D u) (sum P.events (λ w. y u w))
+      gifts_in : (u : ℕ) → u < P.events → sum P.events (λ w. on (reached P D w) (y u w)) ≡ on (D u) (sum P.events (λ w. y u w))
       unfolding taken into from
-      gifts-in =
+      gifts_in =
           sum_tight
           P.events
           (λ u. sum P.events (λ w. on (reached P D w) (y u w)))
           (λ u. on (D u) (sum P.events (λ w. y u w)))
-          comes-from
+          comes_from
           (omega (arith, full, taken_into (reached P D), from_given D, over_all P.events (reached P D) share))
 
-      tight-closed : Closed P y share (reached P D) D
-      tight-closed =
+      tight_closed : Closed P y share (reached P D) D
+      tight_closed =
           record {
-            roots = λ w l h. in-it (reached P D w) (share w) h (shares-in w l);
-            back = λ u w l r b. ⊎_elim (λ h. d.closed u w b h) (λ h. (front_yes P D w h).ready u (before-earlier P S b) b) (or_yes (D w) (front P D w) r);
+            roots = λ w l h. in-it (reached P D w) (share w) h (shares_in w l);
+            back = λ u w l r b. ⊎_elim (λ h. d.closed u w b h) (λ h. (front_yes P D w h).ready u (before_earlier P S b) b) (or_yes (D w) (front P D w) r);
             onward = λ u w lu lw t h. in-it (reached P D w) (y u w) h (all_in u lu t w lw);
           }
         where
@@ -131,7 +131,7 @@ module _ (N : Net) (P : Plan) (p : ℕ) (S : Sound P) (y : ℕ → ℕ → ℕ) 
               (λ z. on (reached P D z) (y u z))
               (λ z. y u z)
               (λ z k. on_le (reached P D z) (y u z))
-              (omega (arith, gifts-in u l, on_yes (D u) (sum P.events (λ z. y u z)) t))
+              (omega (arith, gifts_in u l, on_yes (D u) (sum P.events (λ z. y u z)) t))
 
           in-it : (b : Bool) (x : ℕ) → 0 < x → on b x ≡ x → T b
           in-it true x l e = tt
@@ -139,15 +139,15 @@ module _ (N : Net) (P : Plan) (p : ℕ) (S : Sound P) (y : ℕ → ℕ → ℕ) 
 
   -- The shares come to no less than the least opening count, so no more is missing than what they come to above the opening count.
   pub least_within : least_opening N P p ≤ sum P.events share
-  least_within = let w = least-attained N P p S in omega (arith, w.2, duality w.0 w.1)
+  least_within = let w = least_attained N P p S in omega (arith, w.2, duality w.0 w.1)
 
   pub missing_within : missing N P p ≤ sum P.events share - N.opening p
   missing_within = omega (arith, least_within, missing_opening N P p)
 
   module _ (U D : Set) (s : Settled P y free share U D) where
     -- the givers seen are a done set, and the takers seen are in it or in its front
-    before-taker : (u : ℕ) → T (D u) → T (preset P U u)
-    before-taker =
+    before_taker : (u : ℕ) → T (D u) → T (preset P U u)
+    before_taker =
         s.generated
         U
         (preset P U)
@@ -157,23 +157,23 @@ module _ (N : Net) (P : Plan) (p : ℕ) (S : Sound P) (y : ℕ → ℕ → ℕ) 
           onward = λ u w lu lw t h. let z = preset_yes P S U u t in s.closed.onward u w lu lw (s.closed.back u z.0 (s.takers z.0 z.1) z.1 z.2) h;
         })
 
-    seen-prefix : IsPrefix P D
-    seen-prefix =
+    seen_prefix : IsPrefix P D
+    seen_prefix =
         record {
           events = λ u t. (s.givers u t).0;
-          closed = λ u v b t. let z = preset_yes P S U v (before-taker v t) in s.closed.back u z.0 (s.takers z.0 z.1) z.1 (chain b z.2);
+          closed = λ u v b t. let z = preset_yes P S U v (before_taker v t) in s.closed.back u z.0 (s.takers z.0 z.1) z.1 (chain b z.2);
         }
 
-    seen-reached : (w : ℕ) → T (U w) → T (reached P D w)
-    seen-reached w t =
+    seen_reached : (w : ℕ) → T (U w) → T (reached P D w)
+    seen_reached w t =
         ⊎_elim
         (λ h. yes_or_left (D w) (front P D w) h)
         (λ h. yes_or_right (D w) (front P D w) (yes_front P D w (record { outside = h; ready = λ u l b. s.closed.back u w (s.takers w t) t b })))
         (decide (D w))
 
-    all-shares : over P.events U share ≡ sum P.events share
+    all_shares : over P.events U share ≡ sum P.events share
     unfolding over
-    all-shares =
+    all_shares =
         sum_ext
         P.events
         _
@@ -196,33 +196,33 @@ module _ (N : Net) (P : Plan) (p : ℕ) (S : Sound P) (y : ℕ → ℕ → ℕ) 
             (eq-zero-or-pos (y u w))
 
     -- the done set seen asks for all the shares
-    seen-full : sum P.events share + given N P p D ≤ taken N P p D
+    seen_full : sum P.events share + given N P p D ≤ taken N P p D
     unfolding taken over into
-    seen-full =
+    seen_full =
         omega (
           arith,
-          all-shares,
+          all_shares,
           taken_into U,
           sum_mono P.events (λ u. on (D u) (given_by N P p u)) (λ u. sum P.events (λ w. on (U w) (y u w))) goes_to,
-          over_mono P.events U (reached P D) (taken_by N P p) (λ w l t. seen-reached w t),
+          over_mono P.events U (reached P D) (taken_by N P p) (λ w l t. seen_reached w t),
         )
 
     -- The shares come to the least opening count, and the missing count is what they come to above the opening count.
-    pub settled-least : least_opening N P p ≡ sum P.events share
-    settled-least = omega (arith, least_within, least-bounds N P p S D seen-prefix, seen-full)
+    pub settled_least : least_opening N P p ≡ sum P.events share
+    settled_least = omega (arith, least_within, least_bounds N P p S D seen_prefix, seen_full)
 
-    pub settled-missing : missing N P p ≡ sum P.events share - N.opening p
-    settled-missing = omega (arith, settled-least, missing_opening N P p)
+    pub settled_missing : missing N P p ≡ sum P.events share - N.opening p
+    settled_missing = omega (arith, settled_least, missing_opening N P p)
 
     -- Where something is missing, the givers seen are the smallest done set of the greatest lack.
-    pub settled-smallest : 0 < missing N P p → smallest N P p ≡ D
+    pub settled_smallest : 0 < missing N P p → smallest N P p ≡ D
     unfolding supply
-    settled-smallest short =
+    settled_smallest short =
         let z = smallest_is N P p S short in
         let m : Set = smallest N P p in
-        let lacks : above0 (lack N P p D) ≡ missing N P p = omega (arith, lack_above0 N P p D, least-bounds N P p S D seen-prefix, seen-full, settled-least, settled-missing) in
+        let lacks : above0 (lack N P p D) ≡ missing N P p = omega (arith, lack_above0 N P p D, least_bounds N P p S D seen_prefix, seen_full, settled_least, settled_missing) in
         set_ext
         m
         D
-        (λ v t. z.least D seen-prefix (positive (lack N P p D) (missing N P p) lacks short) v t)
-        (λ v t. s.generated (reached P m) m (tight-closed m z.prefixed (omega (arith, settled-missing, lack_above0 N P p m, ap above0 z.lacks))) v t)
+        (λ v t. z.least D seen_prefix (positive (lack N P p D) (missing N P p) lacks short) v t)
+        (λ v t. s.generated (reached P m) m (tight_closed m z.prefixed (omega (arith, settled_missing, lack_above0 N P p m, ap above0 z.lacks))) v t)

@@ -102,8 +102,8 @@ module _ (fed : List ℕ) (u w : ℕ) (m : T (marked fed u w)) where
 
   module _ (fed' : List ℕ) (gone : MarkRemoved fed fed' u w) where
     -- it is what is added to the marks that are left without it
-    added-back : MarkAdded fed' fed u w
-    added-back =
+    added_back : MarkAdded fed' fed u w
+    added_back =
         record {
           size = sym gone.size;
           marks = λ a b hb.
@@ -159,9 +159,9 @@ module _ (amount fed : List ℕ) (u w k : ℕ) (hu : u < 256) (hw : w < 256) (ro
 
   module _ (m : T (marked fed u w)) where
     -- k is taken away, and some is left: the amounts before, seen from those after
-    pub left-some : (x : ℕ) → 0 < x → x + k ≡ get_or amount (u * 256 + w) 0
+    pub left_some : (x : ℕ) → 0 < x → x + k ≡ get_or amount (u * 256 + w) 0
         → Raised (set amount (u * 256 + w) x) fed amount fed u w k × (Exact amount fed → Exact (set amount (u * 256 + w) x) fed)
-    left-some x some e =
+    left_some x some e =
         let i : ℕ = u * 256 + w in
         let here : get_or amount i 0 ≡ fed_by (set amount i x) fed u w + k = omega (arith, get_or-set_same amount i x 0 room, fed_marked (set amount i x) fed u w m) in
         let r : Raised (set amount i x) fed amount fed u w k =
@@ -169,12 +169,12 @@ module _ (amount fed : List ℕ) (u w k : ℕ) (hu : u < 256) (hw : w < 256) (ro
         (r, lowered_exact hu hw r (λ t. omega (arith, fed_marked amount fed u w m)))
 
     -- k is taken away, which was all: the mark goes
-    pub left-none : (fed' : List ℕ) → MarkRemoved fed fed' u w → get_or amount (u * 256 + w) 0 ≡ k
+    pub left_none : (fed' : List ℕ) → MarkRemoved fed fed' u w → get_or amount (u * 256 + w) 0 ≡ k
         → Raised amount fed' amount fed u w k × (Exact amount fed → Exact amount fed')
-    left-none fed' gone e =
+    left_none fed' gone e =
         let no = cleared fed u w m fed' gone hw in
         let r : Raised amount fed' amount fed u w k =
-        raised _ _ _ _ _ _ _ hw (added-back fed u w m fed' gone) refl (λ i ne. refl) (omega (arith, fed_unmarked amount fed' u w no)) in
+        raised _ _ _ _ _ _ _ hw (added_back fed u w m fed' gone) refl (λ i ne. refl) (omega (arith, fed_unmarked amount fed' u w no)) in
         (r, lowered_exact hu hw r (λ t. absurd (no t)))
 
 -- a row with x at i, where x and k make up what stood there

@@ -21,8 +21,8 @@ module _ (s : List ℕ) (from : ℕ) where
       (ap (drop from) (take-suc s i 0 m) ∙ drop-append-le from (take i s) (get_or s i 0 ∷ []) (omega (arith, length-take-le i s (omega arith))))
 
   module _ (old : List ℕ) (at : ℕ) where
-    pub copied-start : at ≤ length old → (end : ℕ) → end ≡ at → Copied s from old old at from end
-    copied-start l end is =
+    pub copied_start : at ≤ length old → (end : ℕ) → end ≡ at → Copied s from old old at from end
+    copied_start l end is =
         record {
           put = rw (is, slice_empty from s) (put_none old at l);
           bytes = rw (slice_empty from s) (λ i m. absurd (omega arith));
@@ -39,5 +39,5 @@ module _ (s : List ℕ) (from : ℕ) where
         one : Bytes (b ∷ [])
         one i l = let first : 0 ≡ i = omega arith in subst (λ (k : ℕ). get_or (b ∷ []) k 0 < 256) first small
 
-    pub copied-done : (row : List ℕ) (i to end : ℕ) → i ≤ to → to ≤ i → (last : ℕ) → last ≡ end → Copied s from old row at i end → Copied s from old row at to last
-    copied-done row i to end l m last is h = let e : to ≡ i = omega arith in rw (e, is) h
+    pub copied_done : (row : List ℕ) (i to end : ℕ) → i ≤ to → to ≤ i → (last : ℕ) → last ≡ end → Copied s from old row at i end → Copied s from old row at to last
+    copied_done row i to end l m last is h = let e : to ≡ i = omega arith in rw (e, is) h

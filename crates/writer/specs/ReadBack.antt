@@ -161,32 +161,32 @@ module _ (N : Net) (P : Plan) (fits : Writable N P) (s : List ℕ) (written : s 
 
   module _ (t : ℕ) (below : t < N.transitions) where
     -- its takes and its gives
-    abbrev takenHere : List ℕ
-    takenHere = each N.places (λ p. bytes 2 (N.takes t p))
+    abbrev taken_here : List ℕ
+    taken_here = each N.places (λ p. bytes 2 (N.takes t p))
 
-    abbrev givenHere : List ℕ
-    givenHere = each N.places (λ p. bytes 2 (N.gives t p))
+    abbrev given_here : List ℕ
+    given_here = each N.places (λ p. bytes 2 (N.gives t p))
 
-    transition-at : item s 1 t ≡ transitions_at (layout_of N P) + 4 * N.places * t
+    transition_at : item s 1 t ≡ transitions_at (layout_of N P) + 4 * N.places * t
     unfolding item_length
-    transition-at = item_at 1 t (4 * N.places) (transitions_at (layout_of N P)) (sym laid_out.transitions_at_lem) (ap (λ (n : ℕ). 4 * n) (sym laid_out.places))
+    transition_at = item_at 1 t (4 * N.places) (transitions_at (layout_of N P)) (sym laid_out.transitions_at_lem) (ap (λ (n : ℕ). 4 * n) (sym laid_out.places))
 
-    transition-here : Stands s (transitions_at (layout_of N P) + 4 * N.places * t) (takenHere ++ givenHere)
+    transition_here : Stands s (transitions_at (layout_of N P) + 4 * N.places * t) (taken_here ++ given_here)
     unfolding weight_bytes transition_bytes
-    transition-here =
+    transition_here =
         each_stands s (transitions_at (layout_of N P)) (4 * N.places) (transition_bytes N) N.transitions (λ t l. transition_length N t) transitions_here t below
 
-    reads-takes : (p : ℕ) → p < N.places → takes_at s t p ≡ N.takes t p
+    reads_takes : (p : ℕ) → p < N.places → takes_at s t p ≡ N.takes t p
     unfolding takes_at
-    reads-takes p h =
-        ap (λ (n : ℕ). number 2 s (n + 2 * p)) transition-at
-        ∙ numbers_read s 2 _ N.places (N.takes t) (λ q m. fits.takes t q below m) (stands_left s (transitions_at (layout_of N P) + 4 * N.places * t) takenHere givenHere transition-here) p h
+    reads_takes p h =
+        ap (λ (n : ℕ). number 2 s (n + 2 * p)) transition_at
+        ∙ numbers_read s 2 _ N.places (N.takes t) (λ q m. fits.takes t q below m) (stands_left s (transitions_at (layout_of N P) + 4 * N.places * t) taken_here given_here transition_here) p h
 
-    reads-gives : (p : ℕ) → p < N.places → gives_at s t p ≡ N.gives t p
+    reads_gives : (p : ℕ) → p < N.places → gives_at s t p ≡ N.gives t p
     unfolding gives_at
-    reads-gives p h =
+    reads_gives p h =
         let begin = transitions_at (layout_of N P) + 4 * N.places * t in
-        let there : item s 1 t + 2 * (count s 0 + p) ≡ begin + 2 * N.places + 2 * p = omega (arith, transition-at, laid_out.places) in
+        let there : item s 1 t + 2 * (count s 0 + p) ≡ begin + 2 * N.places + 2 * p = omega (arith, transition_at, laid_out.places) in
         ap (number 2 s) there
         ∙ numbers_read
         s
@@ -195,7 +195,7 @@ module _ (N : Net) (P : Plan) (fits : Writable N P) (s : List ℕ) (written : s 
         N.places
         (N.gives t)
         (λ q m. fits.gives t q below m)
-        (moved s givenHere _ _ (ap (λ (n : ℕ). begin + n) (takes_length N t)) (stands_right s begin takenHere givenHere transition-here))
+        (moved s given_here _ _ (ap (λ (n : ℕ). begin + n) (takes_length N t)) (stands_right s begin taken_here given_here transition_here))
         p
         h
 
@@ -207,8 +207,8 @@ module _ (N : Net) (P : Plan) (fits : Writable N P) (s : List ℕ) (written : s 
         places = sym is.places;
         transitions = sym is.transitions;
         opening = λ p h. reads_opening p (omega (arith, is.places));
-        takes = λ t p h m. reads-takes t (omega (arith, is.transitions)) p (omega (arith, is.places));
-        gives = λ t p h m. reads-gives t (omega (arith, is.transitions)) p (omega (arith, is.places));
+        takes = λ t p h m. reads_takes t (omega (arith, is.transitions)) p (omega (arith, is.places));
+        gives = λ t p h m. reads_gives t (omega (arith, is.transitions)) p (omega (arith, is.places));
       }
 
   events_here : Stands s (events_at (layout_of N P)) (label_bytes P)

@@ -56,16 +56,16 @@ module _ (s : List ℕ) (known : Laid s) where
   last_start = omega (arith, known.pairs_start, known.events_start, known.transitions_start, known.places_start)
 
   module _ (small : BytesWithin s table_length (start s 3)) where
-    openings-here : Stands s table_length (opening_bytes (net_of s))
+    openings_here : Stands s table_length (opening_bytes (net_of s))
     unfolding opening_bytes opening_at item_length
-    openings-here =
+    openings_here =
         let within : table_length + 4 * places_of s ≤ start s 3 = omega (arith, known.transitions_start, known.events_start, known.pairs_start, known.places_start) in
         numbers_here s table_length (start s 3) small 4 table_length (places_of s) (opening_at s) (omega arith) within (λ p h.
         ap (number 4 s) (ap (λ (n : ℕ). n + 4 * p) (sym known.places_start) ∙ item_at 0 p 4 refl))
 
-    transition-here : (t : ℕ) → t < transitions_of s → Stands s (start s 1 + 4 * places_of s * t) (transition_bytes (net_of s) t)
+    transition_here : (t : ℕ) → t < transitions_of s → Stands s (start s 1 + 4 * places_of s * t) (transition_bytes (net_of s) t)
     unfolding transition_bytes takes_at gives_at item_length
-    transition-here t h =
+    transition_here t h =
         let begin = start s 1 + 4 * places_of s * t in
         let there = item_at 1 t (4 * places_of s) refl in
         let takes = each (places_of s) (λ p. bytes 2 (takes_at s t p)) in
@@ -85,18 +85,18 @@ module _ (s : List ℕ) (known : Laid s) where
         let place : begin + 2 * places_of s + 2 * p ≡ item s 1 t + 2 * (places_of s + p) = omega (arith, there) in
         ap (number 2 s) place)))
 
-    labels-here : Stands s (start s 2) (label_bytes (plan_of s))
+    labels_here : Stands s (start s 2) (label_bytes (plan_of s))
     unfolding label_bytes label_at item_length
-    labels-here =
+    labels_here =
         let after : table_length ≤ start s 2 = omega (arith, known.events_start, known.transitions_start, known.places_start) in
         numbers_here s table_length (start s 3) small 2 (start s 2) (events_of s) (label_at s) after (omega (arith, known.pairs_start)) (λ v h.
         ap (number 2 s) (item_at 2 v 2 refl))
 
     -- what stands between the table and the pairs
-    bodies-here : Stands s table_length (body_bytes (net_of s) (plan_of s))
+    bodies_here : Stands s table_length (body_bytes (net_of s) (plan_of s))
     unfolding body_bytes weight_bytes
-    bodies-here =
-        let weights = stands_each s (start s 1) (4 * places_of s) (transition_bytes (net_of s)) (transitions_of s) (λ t h. transition_length (net_of s) t) transition-here in
+    bodies_here =
+        let weights = stands_each s (start s 1) (4 * places_of s) (transition_bytes (net_of s)) (transitions_of s) (λ t h. transition_length (net_of s) t) transition_here in
         let one : start s 1 ≡ table_length + length (opening_bytes (net_of s)) = omega (arith, openings_length (net_of s), known.transitions_start, known.places_start) in
         let two : start s 2 ≡ table_length + length (opening_bytes (net_of s) ++ weight_bytes (net_of s)) =
         omega (arith, nets_length (net_of s) (plan_of s), known.events_start, known.transitions_start, known.places_start) in
@@ -105,13 +105,13 @@ module _ (s : List ℕ) (known : Laid s) where
         table_length
         (opening_bytes (net_of s) ++ weight_bytes (net_of s))
         (label_bytes (plan_of s))
-        (stands_both s table_length (opening_bytes (net_of s)) (weight_bytes (net_of s)) openings-here (subst (λ (n : ℕ). Stands s n (weight_bytes (net_of s))) one weights))
-        (subst (λ (n : ℕ). Stands s n (label_bytes (plan_of s))) two labels-here)
+        (stands_both s table_length (opening_bytes (net_of s)) (weight_bytes (net_of s)) openings_here (subst (λ (n : ℕ). Stands s n (weight_bytes (net_of s))) one weights))
+        (subst (λ (n : ℕ). Stands s n (label_bytes (plan_of s))) two labels_here)
 
   -- That part of the sheet, as it is copied.
   pub bodies_part : Bytes (slice table_length (start s 3) s) → slice table_length (start s 3) s ≡ body_bytes (net_of s) (plan_of s)
   bodies_part small =
-      stands_part s table_length (start s 3) (body_bytes (net_of s) (plan_of s)) (omega (arith, body_length (net_of s) (plan_of s), ends)) within (bodies-here each-small)
+      stands_part s table_length (start s 3) (body_bytes (net_of s) (plan_of s)) (omega (arith, body_length (net_of s) (plan_of s), ends)) within (bodies_here each_small)
     where
       ends : start s 3 ≡ pairs_at (layout_of (net_of s) (plan_of s))
       ends = last_start
@@ -119,8 +119,8 @@ module _ (s : List ℕ) (known : Laid s) where
       within : start s 3 ≤ length s
       within = omega (arith, known.end)
 
-      each-small : BytesWithin s table_length (start s 3)
-      each-small i l m =
+      each_small : BytesWithin s table_length (start s 3)
+      each_small i l m =
           let j = i - table_length in
           let there : table_length + j ≡ i = omega arith in
           let in-part = part_at s table_length (start s 3) j (omega arith) ∙ ap (λ (n : ℕ). get_or s n 0) there in
@@ -154,9 +154,9 @@ module _ (s : List ℕ) (known : Laid s) where
         let three = stands_both s 0 (e0 ++ e1) e2 two (after e2 (length (e0 ++ e1)) 16 (two_entries l) c) in
         stands_both s 0 (e0 ++ e1 ++ e2) e3 three (after e3 (length (e0 ++ e1 ++ e2)) 24 (three_entries l) d)
 
-    order-here : Stands s (start s 3) (order_bytes (plan_of s))
+    order_here : Stands s (start s 3) (order_bytes (plan_of s))
     unfolding order_bytes pair_bytes earlier_at later_at item_length
-    order-here =
+    order_here =
         stands_each s (start s 3) 4 (λ i. pair_bytes (earlier_at s i) (later_at s i)) (pairs_of s) (λ i h. pair_length (earlier_at s i) (later_at s i)) (λ i h.
         let there = item_at 3 i 4 refl in
         let fits : start s 3 + 4 * i + 2 + 2 ≤ length s = omega (arith, item_within 4 i (pairs_of s) h, known.end) in
@@ -164,14 +164,14 @@ module _ (s : List ℕ) (known : Laid s) where
         two_here s 0 (length s) (within 0 (length s) (omega arith)) 2 (start s 3 + 4 * i) (omega arith) fits (earlier_at s i) (later_at s i) (ap (number 2 s) there) second)
 
     -- Written again, a sheet is the same.
-    pub write-back : bytes_of (net_of s) (plan_of s) ≡ s
+    pub write_back : bytes_of (net_of s) (plan_of s) ≡ s
     unfolding bytes_of
-    write-back =
+    write_back =
         let N = net_of s in
         let P = plan_of s in
-        let bodies = bodies-here (within table_length (start s 3) (omega (arith, known.end))) in
+        let bodies = bodies_here (within table_length (start s 3) (omega (arith, known.end))) in
         let front = stands_both s 0 (table (layout_of N P)) (body_bytes N P) table_here (after (body_bytes N P) _ _ (table_length_lem (layout_of N P)) bodies) in
-        let whole = stands_both s 0 (table (layout_of N P) ++ body_bytes N P) (order_bytes P) front (after (order_bytes P) _ _ (front_length N P ∙ sym last_start) order-here) in
+        let whole = stands_both s 0 (table (layout_of N P) ++ body_bytes N P) (order_bytes P) front (after (order_bytes P) _ _ (front_length N P ∙ sym last_start) order_here) in
         sym (stands_same s (bytes_of N P) (omega (arith, known.end, last_start, sheet_length N P)) whole)
 
 -- What is written goes by the items.

@@ -1,7 +1,7 @@
 -- `calls::next` meets its contract: a lower fault is told, else k if it is found, else none.
 use mathlib.Core.Path.{refl}
 use borrow.Author.Rules.{rules}
-use Rattle.calls.specs.Refusal.{next_lower, next-not, next_here}
+use Rattle.calls.specs.Refusal.{next_lower, next_not, next_here}
 use Rattle.calls.proofs.next.Statement.{statement}
 use Rattle.calls.proofs.next.Tie as tie
 
@@ -20,7 +20,7 @@ returns-3 c =
     let not : tie.Else2 = search in
     let clear : tie.Else1 = search in
     let made : tie.After-no-fault = search in
-    next-not _ _ _ clear.if1.left _ refl not.if2.left made.no_fault_lem.ensures
+    next_not _ _ _ clear.if1.left _ refl not.if2.left made.no_fault_lem.ensures
 
 pub next-spec : {M : Type 1} → statement M
 next-spec =

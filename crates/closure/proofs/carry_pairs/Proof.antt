@@ -5,8 +5,8 @@ use mathlib.Core.Path.{◌∙◌}
 use borrow.Author.Rules.{rules}
 use lib.ListN.{get_or}
 use Rattle.closure.specs.InOrder.{starts_below}
-use Rattle.closure.proofs.Along.{Along, event_few, head_few, along-start, along-end, along-less, along-more, this, this-few, this-end}
-use Rattle.closure.proofs.Order.{to-it, next-below}
+use Rattle.closure.proofs.Along.{Along, event_few, head_few, along_start, along_end, along_less, along_more, this, this_few, this_end}
+use Rattle.closure.proofs.Order.{to_it, next_below}
 use Rattle.ids.specs.Limits.{most_events, most_pairs}
 use Rattle.sorting.specs.Rows.{plan_by}
 use Rattle.closure.proofs.carry_pairs.Statement.{statement}
@@ -32,7 +32,7 @@ first_fits c = head_few _ _ _ _ _ _ _ c.requires.0.0 _ c.requires.0.1
 loop-holds : tie.Need-loop-init invariant-loop decreases-loop
 loop-holds c =
     let start : tie.Start invariant-loop decreases-loop = search in
-    along-start _ _ _ _ _ _ _ start.pre.0.0 _ start.pre.0.1 _ _ start.pre.1
+    along_start _ _ _ _ _ _ _ start.pre.0.0 _ start.pre.0.1 _ _ start.pre.1
 
 abbrev start : tie.In-loop invariant-loop decreases-loop → tie.Start invariant-loop decreases-loop
 start c = search
@@ -42,15 +42,15 @@ more : (c : tie.In-loop invariant-loop decreases-loop) → 0 < c.before.loop.at
 more c = omega (arith, c.loop-test.true)
 
 below : (c : tie.In-loop invariant-loop decreases-loop) → c.before.loop.at - 1 < most_pairs
-below c = this-few _ _ _ _ _ _ _ (start c).requires.0.0 _ (start c).requires.0.1 _ _ _ c.before.loop.invariant (more c)
+below c = this_few _ _ _ _ _ _ _ (start c).requires.0.0 _ (start c).requires.0.1 _ _ _ c.before.loop.invariant (more c)
 
 -- which ends at an event
 ends : (c : tie.In-loop invariant-loop decreases-loop) → get_or (start c).args.to.now (c.before.loop.at - 1) 0 < most_events
-ends c = this-end _ _ _ _ _ _ _ (start c).requires.0.0 _ (start c).requires.0.1 _ _ _ c.before.loop.invariant (more c)
+ends c = this_end _ _ _ _ _ _ _ (start c).requires.0.0 _ (start c).requires.0.1 _ _ _ c.before.loop.invariant (more c)
 
 -- the next pair of the list is an earlier one
 less : (c : tie.In-loop invariant-loop decreases-loop) → get_or (start c).args.next.now (c.before.loop.at - 1) 0 < c.before.loop.at
-less c = along-less _ _ _ _ _ _ _ (start c).requires.0.0 _ (start c).requires.0.1 _ _ _ c.before.loop.invariant (more c)
+less c = along_less _ _ _ _ _ _ _ (start c).requires.0.0 _ (start c).requires.0.1 _ _ _ c.before.loop.invariant (more c)
 
 carry-requires : tie.Need-carry-requires invariant-loop decreases-loop
 carry-requires c κs =
@@ -64,15 +64,15 @@ loop-again c =
     let sorted = (start turn).pre.0.0 in
     let place = (start turn).pre.0.1 in
     let own = this _ _ _ _ _ _ _ sorted _ place _ _ _ turn.before.loop.inv (more turn) in
-    along-more _ _ _ _ _ _ _ sorted _ place _ _ _ turn.before.loop.inv (more turn)
-    (λ i l e. to-it _ _ sorted.arranged _ place i l (e ∙ own.1)) (rw own.1 carried.carry.ensures)
+    along_more _ _ _ _ _ _ _ sorted _ place _ _ _ turn.before.loop.inv (more turn)
+    (λ i l e. to_it _ _ sorted.arranged _ place i l (e ∙ own.1)) (rw own.1 carried.carry.ensures)
 
 returns : tie.Need-returns invariant-loop decreases-loop
 returns c =
     let start : tie.Start invariant-loop decreases-loop = search in
     let sorted = start.pre.0.0 in
-    along-end _ _ _ _ _ _ _ sorted _ start.pre.0.1 _ _ _ c.before.loop.invariant _ (omega (arith, c.loop-test.false))
-    (next-below _ _ sorted.arranged _ start.pre.0.1)
+    along_end _ _ _ _ _ _ _ sorted _ start.pre.0.1 _ _ _ c.before.loop.invariant _ (omega (arith, c.loop-test.false))
+    (next_below _ _ sorted.arranged _ start.pre.0.1)
 
 pub carry-pairs-spec : {M : Type 1} → statement M
 carry-pairs-spec =

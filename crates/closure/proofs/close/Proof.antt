@@ -3,7 +3,7 @@ use Prim.Native.Nat.{◌-◌, ◌≤◌}
 use native.Mathlib.Omega.{arith}
 use mathlib.Core.Path.{◌≡◌}
 use borrow.Author.Rules.{rules}
-use Rattle.closure.specs.Carried.{carried_start, all-carried}
+use Rattle.closure.specs.Carried.{carried_start, all_carried}
 use Rattle.closure.specs.InOrder.{CarriedTo}
 use Rattle.closure.proofs.Order.{none_below, all_below}
 use Rattle.sorting.specs.Rows.{plan_by}
@@ -36,7 +36,7 @@ returns c =
     let sorted = start.pre.0 in
     let done = c.before.loop in
     let all : done.h ≡ start.args.events = omega arith in
-    all-carried _ sorted.within.named sorted.within.few done.invariant.1 (rw all (λ i l. all_below _ _ sorted.arranged sorted.within.named i l))
+    all_carried _ sorted.within.named sorted.within.few done.invariant.1 (rw all (λ i l. all_below _ _ sorted.arranged sorted.within.named i l))
 
 pub close_spec : {M : Type 1} → statement M
 close_spec =

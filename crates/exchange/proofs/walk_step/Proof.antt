@@ -4,7 +4,7 @@ use borrow.Author.Rules.{rules}
 use Rattle.drawing.specs.Moves.{moved_none}
 use Rattle.search.specs.Trail.{◌!◌}
 use Rattle.exchange.specs.Walk.{TakerPlace, NextGiver}
-use Rattle.exchange.proofs.Steps.{has_free, has_place, has-next, next-ready}
+use Rattle.exchange.proofs.Steps.{has_free, has_place, has_next, next_ready}
 use Rattle.exchange.proofs.walk_step.Statement.{statement}
 use Rattle.exchange.proofs.walk_step.Tie as tie
 
@@ -33,7 +33,7 @@ returns-4 : tie.Need-returns-4
 returns-4 c =
     let start : tie.Start = search in
     let p = there (search) in
-    (moved_none _ _ _ start.pre.0, λ row tail met h. (rw c.enum-told2.given.1 at c.before.before.next-giver.ensures) _ (has-next h _ p.here (omega arith)))
+    (moved_none _ _ _ start.pre.0, λ row tail met h. (rw c.enum-told2.given.1 at c.before.before.next-giver.ensures) _ (has_next h _ p.here (omega arith)))
 
 abbrev placed : tie.After-next → tie.After-place
 placed c = search
@@ -59,7 +59,7 @@ returns-5 c =
     let p = there (placed next) in
     let q = then next in
     let x = exchanged.exchange.ensures in
-    (x.moved, (q.names, omega arith, λ row tail met h. next-ready h _ p.here (omega arith) _ q.here _ _ start.pre.0 x))
+    (x.moved, (q.names, omega arith, λ row tail met h. next_ready h _ p.here (omega arith) _ q.here _ _ start.pre.0 x))
 
 pub walk-step-spec : {M : Type 1} → statement M
 walk-step-spec =

@@ -5,7 +5,7 @@ use mathlib.Core.Bool.{true≢false}
 use mathlib.Core.Path.{sym}
 use borrow.Author.Rules.{rules}
 use Rattle.ids.specs.Limits.{most_events}
-use Rattle.flow_sums.proofs.Pairs.{Added, added_start, added_done, within, pair-broken, pair_more}
+use Rattle.flow_sums.proofs.Pairs.{Added, added_start, added_done, within, pair_broken, pair_more}
 use Rattle.flow_sums.proofs.add_pairs.Statement.{statement}
 use Rattle.flow_sums.proofs.add_pairs.Tie as tie
 
@@ -26,7 +26,7 @@ ends c =
     within known.0 _ _ known.1.pairs c.before.before.loop-test.true c.before.earlier.ensures c.later.ensures
 
 returns : tie.Need-returns invariant-loop decreases-loop
-returns c = (search (rules, pair-broken), λ e. absurd (true≢false (sym e)))
+returns c = (search (rules, pair_broken), λ e. absurd (true≢false (sym e)))
 
 raise-requires : tie.Need-raise-requires invariant-loop decreases-loop
 raise-requires c κs =

@@ -2,7 +2,7 @@
 use native.Mathlib.Omega.{arith}
 use borrow.Author.Rules.{rules}
 use Rattle.order.specs.Rows.{both_wanted}
-use Rattle.flowcheck.proofs.Answers.{counted, fault_told, ready, yes-told, no-told}
+use Rattle.flowcheck.proofs.Answers.{counted, fault_told, ready, yes_told, no_told}
 use Rattle.flowcheck.proofs.check_flow.Statement.{statement}
 use Rattle.flowcheck.proofs.check_flow.Tie as tie
 
@@ -38,7 +38,7 @@ returns-2 c =
     let found : tie.After-with-row = search in
     let is = examined.examine.ensures in
     let clear : tie.Else1 = search in
-    yes-told _ _ _ is.0 is.1.1 _ (omega arith) placed.with-place.ensures _ (omega arith) found.with_row.ensures clear.if1.left c.before.is-valid.ensures c.if2.true
+    yes_told _ _ _ is.0 is.1.1 _ (omega arith) placed.with-place.ensures _ (omega arith) found.with_row.ensures clear.if1.left c.before.is-valid.ensures c.if2.true
 
 returns-3 : tie.Need-returns-3
 returns-3 c =
@@ -47,7 +47,7 @@ returns-3 c =
     let found : tie.After-with-row = search in
     let is = examined.examine.ensures in
     let clear : tie.Else1 = search in
-    no-told _ _ _ is.0 is.1.1 _ (omega arith) placed.with-place.ensures _ (omega arith) found.with_row.ensures clear.if1.left c.before.is-valid.ensures c.if2.false
+    no_told _ _ _ is.0 is.1.1 _ (omega arith) placed.with-place.ensures _ (omega arith) found.with_row.ensures clear.if1.left c.before.is-valid.ensures c.if2.false
 
 pub check-flow-spec : {M : Type 1} → statement M
 check-flow-spec =

@@ -3,7 +3,7 @@ use native.Mathlib.Omega.{arith}
 use mathlib.Core.Path.{refl}
 use borrow.Author.Tests.{not-false}
 use borrow.Author.Rules.{rules}
-use Rattle.flowcheck.proofs.Told.{breaks-3, breaks_4, rest-decides}
+use Rattle.flowcheck.proofs.Told.{breaks_3, breaks_4, rest_decides}
 use Rattle.flowcheck.proofs.is_valid.Statement.{statement}
 use Rattle.flowcheck.proofs.is_valid.Tie as tie
 
@@ -16,7 +16,7 @@ returns : tie.Need-returns
 returns c = search (rules, breaks_4)
 
 returns-2 : tie.Need-returns-2
-returns-2 c = search (rules, breaks-3)
+returns-2 c = search (rules, breaks_3)
 
 is-balanced-requires : tie.Need-is-balanced-requires
 is-balanced-requires c κs =
@@ -26,7 +26,7 @@ is-balanced-requires c κs =
     (start.pre.0, (start.pre.1.0, pairs.add-pairs.ensures.1 (not-false _ passed.if1.left)))
 
 returns-3 : tie.Need-returns-3
-returns-3 c = search (rules, rest-decides)
+returns-3 c = search (rules, rest_decides)
 
 pub is-valid-spec : {M : Type 1} → statement M
 is-valid-spec =

@@ -7,7 +7,7 @@ use borrow.Author.Rules.{rules}
 use Rattle.ids.specs.Limits.{most_events}
 use Rattle.fold.specs.Feeding.{Turned}
 use Rattle.fold.specs.FoldedTo.{turn_of}
-use Rattle.fold.proofs.Turns.{turns_none, turns-giver, turn-skip, turn-trace, turn_more}
+use Rattle.fold.proofs.Turns.{turns_none, turns_giver, turn_skip, turn_trace, turn_more}
 use Rattle.fold.proofs.fold_giver.Statement.{statement}
 use Rattle.fold.proofs.fold_giver.Tie as tie
 
@@ -28,7 +28,7 @@ trace-requires c κs =
     let l = at-loop.loop in
     let fed : tie.Then1 invariant-loop decreases-loop = search in
     let told = sym fed.before.is-marked.ensures ∙ fed.if1.taken in
-    (search rules, turn-trace start.args.u.0 l.w l.inv.1 (omega arith) (omega arith) _ told c.before.tokens.ensures start.pre.1)
+    (search rules, turn_trace start.args.u.0 l.w l.inv.1 (omega arith) (omega arith) _ told c.before.tokens.ensures start.pre.1)
 
 loop-again : tie.Need-loop-preserved invariant-loop decreases-loop
 loop-again c =
@@ -40,14 +40,14 @@ loop-again c =
       search rules,
       ⊎_elim
           (λ t. turn_more u l.w l.inv.1 (omega arith) (omega arith) _ (is ∙ t.0.taken) t.1.ensures _ _ t.6 (search rules) t.3.ensures)
-          (λ t. turn-skip u l.w l.inv.1 (omega arith) (omega arith) _ (is ∙ t.0.left) t.1)
+          (λ t. turn_skip u l.w l.inv.1 (omega arith) (omega arith) _ (is ∙ t.0.left) t.1)
           c.if1.branch,
     )
 
 returns : tie.Need-returns invariant-loop decreases-loop
 returns c =
     let start : tie.Start invariant-loop decreases-loop = search in
-    turns-giver start.args.u.0 c.before.loop.w c.before.loop.invariant.1 (omega arith)
+    turns_giver start.args.u.0 c.before.loop.w c.before.loop.invariant.1 (omega arith)
 
 pub fold-giver-spec : {M : Type 1} → statement M
 fold-giver-spec =

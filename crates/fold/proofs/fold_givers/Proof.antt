@@ -4,7 +4,7 @@ use native.Mathlib.Omega.{arith}
 use borrow.Author.Rules.{rules}
 use Rattle.ids.specs.Limits.{most_events}
 use Rattle.fold.specs.Feeding.{Turned}
-use Rattle.fold.proofs.Turns.{turns_none, turns_then, turns-some, turns-all}
+use Rattle.fold.proofs.Turns.{turns_none, turns_then, turns_some, turns_all}
 use Rattle.fold.proofs.fold_givers.Statement.{statement}
 use Rattle.fold.proofs.fold_givers.Tie as tie
 
@@ -22,7 +22,7 @@ fold-giver-requires : tie.Need-fold-giver-requires invariant-loop decreases-loop
 fold-giver-requires c κs =
     let start : tie.Start invariant-loop decreases-loop = search in
     let at-loop : tie.At-loop invariant-loop decreases-loop = search in
-    (search rules, turns-some start.pre.1.1 at-loop.loop.inv.1 start.pre.1.0)
+    (search rules, turns_some start.pre.1.1 at-loop.loop.inv.1 start.pre.1.0)
 
 loop-again : tie.Need-loop-preserved invariant-loop decreases-loop
 loop-again c =
@@ -33,7 +33,7 @@ loop-again c =
 returns : tie.Need-returns invariant-loop decreases-loop
 returns c =
     let start : tie.Start invariant-loop decreases-loop = search in
-    turns-all start.pre.1.1 c.before.loop.invariant.1 (omega arith)
+    turns_all start.pre.1.1 c.before.loop.invariant.1 (omega arith)
 
 pub fold-givers-spec : {M : Type 1} → statement M
 fold-givers-spec =

@@ -2,12 +2,12 @@
 use mathlib.Core.Path.{subst, sym, ◌∙◌}
 use borrow.Author.Rules.{rules}
 use Rattle.last_mark.specs.Found.{Both, Tells}
-use Rattle.fold.proofs.Walks.{step-here, step-there, step-exists}
+use Rattle.fold.proofs.Walks.{step_here, step_there, step_exists}
 use Rattle.fold.proofs.step_back.Statement.{statement}
 use Rattle.fold.proofs.step_back.Tie as tie
 
 returns : tie.Need-returns
-returns c = (search rules, λ P index way b. step-here way b (sym c.before.is-marked.ensures ∙ c.if1.true))
+returns c = (search rules, λ P index way b. step_here way b (sym c.before.is-marked.ensures ∙ c.if1.true))
 
 returns-2 : tie.Need-returns-2
 returns-2 c =
@@ -15,13 +15,13 @@ returns-2 c =
     let away : tie.Else1 = search in
     let found : tie.After-last-common = search in
     let unmarked = sym away.before.is-marked.ensures ∙ away.if1.left in
-    absurd (step-exists start.pre.1.2 start.pre.1.3 unmarked (subst (Tells (Both _ _ _ _)) c.enum_told.given.1 found.last-common.ensures))
+    absurd (step_exists start.pre.1.2 start.pre.1.3 unmarked (subst (Tells (Both _ _ _ _)) c.enum_told.given.1 found.last-common.ensures))
 
 returns-3 : tie.Need-returns-3
 returns-3 c =
     let found : tie.After-last-common = search in
     let both = subst (Tells (Both _ _ _ _)) c.before.v.given.1 found.last-common.ensures in
-    (both.below, λ P index way b. step-there way b _ both)
+    (both.below, λ P index way b. step_there way b _ both)
 
 pub step-back-spec : {M : Type 1} → statement M
 step-back-spec =

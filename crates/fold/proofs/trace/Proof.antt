@@ -2,7 +2,7 @@
 use Prim.Native.Nat.{◌<◌}
 use borrow.Author.Rules.{rules}
 use Rattle.ids.specs.Limits.{most_events}
-use Rattle.fold.proofs.Walks.{steps, Walking, walk_start, walk_done, walk_step, walk-fewer, walk-link, walk-named, walk-room, walk_more}
+use Rattle.fold.proofs.Walks.{steps, Walking, walk_start, walk_done, walk_step, walk_fewer, walk_link, walk_named, walk_room, walk_more}
 use Rattle.fold.proofs.trace.Statement.{statement}
 use Rattle.fold.proofs.trace.Tie as tie
 
@@ -27,7 +27,7 @@ pair-number-requires c κs =
     let start : tie.Start invariant-loop decreases-loop = search in
     let at-loop : tie.At-loop invariant-loop decreases-loop = search in
     let step : tie.After-step-back invariant-loop decreases-loop = search in
-    (search rules, walk-link at-loop.loop.inv.1 step.before.if1.taken start.pre.1.0 step.step_back.ensures.1)
+    (search rules, walk_link at-loop.loop.inv.1 step.before.if1.taken start.pre.1.0 step.step_back.ensures.1)
 
 carry-requires : tie.Need-carry-requires invariant-loop decreases-loop
 carry-requires c κs =
@@ -39,14 +39,14 @@ carry-requires c κs =
     let apart = step.before.if1.taken in
     let back = step.step_back.ensures.1 in
     let found = pair.pair-number.ensures in
-    (walk-named walk apart start.pre.1.0 back found, walk-room walk apart start.pre.1.0 back found start.pre.1.1)
+    (walk_named walk apart start.pre.1.0 back found, walk_room walk apart start.pre.1.0 back found start.pre.1.1)
 
 loop-less : tie.Need-loop-smaller invariant-loop decreases-loop
 loop-less c =
     let start : tie.Start invariant-loop decreases-loop = search in
     let at-loop : tie.At-loop invariant-loop decreases-loop = search in
     let step : tie.After-step-back invariant-loop decreases-loop = search in
-    walk-fewer at-loop.loop.inv.1 step.before.if1.taken start.pre.1.0 step.step_back.ensures.1
+    walk_fewer at-loop.loop.inv.1 step.before.if1.taken start.pre.1.0 step.step_back.ensures.1
 
 loop-again : tie.Need-loop-preserved invariant-loop decreases-loop
 loop-again c =

@@ -3,7 +3,7 @@ use native.Mathlib.Omega.{arith}
 use mathlib.Core.Path.{sym, ◌∙◌}
 use borrow.Author.Rules.{rules}
 use lib.Seq.{length-take-le}
-use Rattle.fold.proofs.Parts.{lent_long, parts-shares, parts-folded}
+use Rattle.fold.proofs.Parts.{lent_long, parts_shares, parts_folded}
 use Rattle.fold.proofs.write_flow.Statement.{statement}
 use Rattle.fold.proofs.write_flow.Tie as tie
 
@@ -34,8 +34,8 @@ returns c =
     let first = folded.fold.last.1.1.1.1.1.0 in (
       λ P g m.
           let f = folded.fold.ensures P g (m ∙ sym (length-take-le _ _ (omega arith))) in
-          parts-folded a.pairs a.row.now first (omega arith) (search rules) written.write-shares.last.0 P _ m f,
-      parts-shares a.pairs a.row.now first (omega arith) (search rules) _ _ _ written.write-shares.ensures,
+          parts_folded a.pairs a.row.now first (omega arith) (search rules) written.write-shares.last.0 P _ m f,
+      parts_shares a.pairs a.row.now first (omega arith) (search rules) _ _ _ written.write-shares.ensures,
     )
 
 pub write-flow-spec : {M : Type 1} → statement M

@@ -4,7 +4,7 @@ use native.Mathlib.Omega.{arith}
 use mathlib.Core.Path.{refl}
 use borrow.Author.Rules.{rules}
 use Rattle.last_mark.specs.Found.{Both}
-use Rattle.last_mark.proofs.Scan.{Passed, start, more-both, done, found-both}
+use Rattle.last_mark.proofs.Scan.{Passed, start, more_both, done, found_both}
 use Rattle.last_mark.proofs.last_common.Statement.{statement}
 use Rattle.last_mark.proofs.last_common.Tie as tie
 
@@ -19,12 +19,12 @@ loop-holds c = (search rules, start _ _ (omega arith) (λ v p. p.below))
 
 returns : tie.Need-returns invariant-loop decreases-loop
 returns c =
-    found-both _ _ _ _ _ (omega arith) _ refl _ c.top.ensures
+    found_both _ _ _ _ _ (omega arith) _ refl _ c.top.ensures
 
 loop-again : tie.Need-loop-preserved invariant-loop decreases-loop
 loop-again c =
     let at-loop : tie.At-loop invariant-loop decreases-loop = search in
-    (search rules, more-both _ _ _ _ _ (omega arith) _ refl _ (omega arith) c.if1.false at-loop.loop.inv.1)
+    (search rules, more_both _ _ _ _ _ (omega arith) _ refl _ (omega arith) c.if1.false at-loop.loop.inv.1)
 
 returns-2 : tie.Need-returns-2 invariant-loop decreases-loop
 returns-2 c = done _ _ (omega arith) c.before.loop.invariant.1

@@ -4,7 +4,7 @@ use native.Mathlib.Omega.{arith}
 use mathlib.Core.Path.{refl}
 use borrow.Author.Rules.{rules}
 use Rattle.last_mark.specs.Found.{Only}
-use Rattle.last_mark.proofs.Scan.{Passed, start, more-only, done, found-only}
+use Rattle.last_mark.proofs.Scan.{Passed, start, more_only, done, found_only}
 use Rattle.last_mark.proofs.last_only.Statement.{statement}
 use Rattle.last_mark.proofs.last_only.Tie as tie
 
@@ -20,14 +20,14 @@ loop-holds c = (search rules, start _ _ (omega arith) (λ v p. p.below))
 returns : tie.Need-returns invariant-loop decreases-loop
 returns c =
     let known : tie.After-shared-slice-known2 invariant-loop decreases-loop = search in
-    found-only _ _ _ _ _ (omega arith) _ (λ q. omega (arith, known.shared-slice-known2.given q)) refl _ c.top.ensures
+    found_only _ _ _ _ _ (omega arith) _ (λ q. omega (arith, known.shared-slice-known2.given q)) refl _ c.top.ensures
 
 loop-again : tie.Need-loop-preserved invariant-loop decreases-loop
 loop-again c =
     let at-loop : tie.At-loop invariant-loop decreases-loop = search in
     let known : tie.After-shared-slice-known2 invariant-loop decreases-loop = search in (
       search rules,
-      more-only _ _ _ _ _ (omega arith) _ (λ q. omega (arith, known.shared-slice-known2.given q)) refl _ (omega arith) c.if1.false at-loop.loop.inv.1,
+      more_only _ _ _ _ _ (omega arith) _ (λ q. omega (arith, known.shared-slice-known2.given q)) refl _ (omega arith) c.if1.false at-loop.loop.inv.1,
     )
 
 returns-2 : tie.Need-returns-2 invariant-loop decreases-loop

@@ -7,7 +7,7 @@ use Rattle.sheet.specs.Chain.{told}
 use Rattle.sheet.specs.Laid.{whole, limited}
 use Rattle.sheet.specs.Told.{as_told}
 use Rattle.layout.specs.Layout.{within}
-use Rattle.layout.proofs.Table.{fault_1, fault_2, fault-starts, fault-end}
+use Rattle.layout.proofs.Table.{fault_1, fault_2, fault_starts, fault_end}
 use Rattle.layout.proofs.layout_fault.Statement.{statement}
 use Rattle.layout.proofs.layout_fault.Tie as tie
 
@@ -37,7 +37,7 @@ returns-3 c =
     let placed : tie.After-misplaced-body = search in
     let is = read.layout_of.ensures.0 in
     let no-2 = told (two.before.over-limit.ensures _ is) two.if2.left in
-    fault-starts _ (search told) no-2 _ (placed.misplaced-body.ensures _ is) c.if3.true
+    fault_starts _ (search told) no-2 _ (placed.misplaced-body.ensures _ is) c.if3.true
 
 wrong-end-requires : tie.Need-wrong-end-requires
 wrong-end-requires c κs =
@@ -56,7 +56,7 @@ returns-4 c =
     let placed : tie.After-misplaced-body = search in
     let is = read.layout_of.ensures.0 in
     let no-2 = told (two.before.over-limit.ensures _ is) two.if2.left in
-    fault-end _ (search told) no-2 _ (placed.misplaced-body.ensures _ is) three.if3.left _ c.wrong-end.ensures
+    fault_end _ (search told) no-2 _ (placed.misplaced-body.ensures _ is) three.if3.left _ c.wrong-end.ensures
 
 pub layout-fault-spec : {M : Type 1} → statement M
 layout-fault-spec =

@@ -2,7 +2,7 @@
 use native.Mathlib.Omega.{arith}
 use mathlib.Core.Path.{◌∙◌}
 use borrow.Author.Rules.{rules}
-use Rattle.lookup.proofs.Items.{transition-there, takes-is}
+use Rattle.lookup.proofs.Items.{transition_there, takes_is}
 use Rattle.lookup.proofs.takes.Statement.{statement}
 use Rattle.lookup.proofs.takes.Tie as tie
 
@@ -10,19 +10,19 @@ add-get16 : tie.Need-overflow-add-get16
 add-get16 c =
     let start : tie.Start = search in
     let at : tie.After-transition-at = search in
-    omega (arith, transition-there _ _ start.pre.0 _ _ at.transition-at.ensures start.pre.1.0)
+    omega (arith, transition_there _ _ start.pre.0 _ _ at.transition_at.ensures start.pre.1.0)
 
 get16-requires : tie.Need-get16-requires
 get16-requires c κs =
     let start : tie.Start = search in
     let at : tie.After-transition-at = search in
-    omega (arith, transition-there _ _ start.pre.0 _ _ at.transition-at.ensures start.pre.1.0)
+    omega (arith, transition_there _ _ start.pre.0 _ _ at.transition_at.ensures start.pre.1.0)
 
 returns : tie.Need-returns
 returns c =
     let start : tie.Start = search in
     let at : tie.After-transition-at = search in
-    c.get16.ensures.0 ∙ takes-is _ _ start.pre.0 _ _ at.transition-at.ensures _ _ (omega arith)
+    c.get16.ensures.0 ∙ takes_is _ _ start.pre.0 _ _ at.transition_at.ensures _ _ (omega arith)
 
 pub takes-spec : {M : Type 1} → statement M
 takes-spec = tie.close (tie.spec (λ c κs. search rules) (λ c. search rules) add-get16 get16-requires returns)

@@ -9,7 +9,7 @@ use Rattle.layout.specs.Layout.{WithinLimits}
 use Rattle.order.specs.Rows.{both_wanted}
 use Rattle.sheet.specs.declared.Fault.{Fault}
 use Rattle.place_judgement.specs.Judgement.{judge_fault}
-use Rattle.place_judgement.proofs.Answers.{fault_told, refused, taken, known, laid, place, room, spare-told}
+use Rattle.place_judgement.proofs.Answers.{fault_told, refused, taken, known, laid, place, room, spare_told}
 use Rattle.place_judgement.proofs.judge_place.Statement.{statement}
 use Rattle.place_judgement.proofs.judge_place.Tie as tie
 
@@ -52,7 +52,7 @@ returns-2 c =
     let known : tie.After-judge-within = search in
     let is = known.judge-within.ensures in
     let else : tie.Else1 = search in
-    spare-told _ _ _ _ _ (told (search)) else.if1.left _ _ is.1 is.2 _ (to_z-of_z w32 _ (record { sfits = known.judge-within.ok }) ∙ is.0)
+    spare_told _ _ _ _ _ (told (search)) else.if1.left _ _ is.1 is.2 _ (to_z-of_z w32 _ (record { sfits = known.judge-within.ok }) ∙ is.0)
 
 pub judge-place-spec : {M : Type 1} → statement M
 judge-place-spec =

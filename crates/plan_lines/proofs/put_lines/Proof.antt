@@ -3,7 +3,7 @@
 use native.Mathlib.Omega.{arith}
 use borrow.Author.Rules.{rules}
 use Rattle.text.specs.Putting.{◌then◌}
-use Rattle.plan_lines.proofs.Judging.{Told, least-row, missing-row, small, told, few_places, lines_are}
+use Rattle.plan_lines.proofs.Judging.{Told, least_row, missing_row, small, told, few_places, lines_are}
 use Rattle.plan_lines.proofs.put_lines.Statement.{statement}
 use Rattle.plan_lines.proofs.put_lines.Tie as tie
 
@@ -23,7 +23,7 @@ sum c = search
 all : (c : tie.After-sum-up) → Told (start c).args.s.now c.sum-up.result
 all c =
     let pre = (start c).requires in
-    let missing = missing-row _ pre.0 _ pre.1.0 _ _ (counted c).count-all.ensures.0 _ _ (lowered c).above-openings.ensures in
+    let missing = missing_row _ pre.0 _ pre.1.0 _ _ (counted c).count-all.ensures.0 _ _ (lowered c).above-openings.ensures in
     told _ pre.0 _ pre.1.0 _ _ missing c.sum-up.result c.sum-up.ensures
 
 count-all-requires : tie.Need-count-all-requires
@@ -37,14 +37,14 @@ sum-up-requires c κs =
     let begun : tie.Start = search in
     let least : tie.After-count-all = search in
     let above : tie.After-above-openings = search in
-    let missing = missing-row _ begun.pre.0 _ begun.pre.1.0 _ _ least.count-all.ensures.0 _ _ above.above-openings.ensures in
+    let missing = missing_row _ begun.pre.0 _ begun.pre.1.0 _ _ least.count-all.ensures.0 _ _ above.above-openings.ensures in
     (small _ begun.pre.0 _ begun.pre.1.0 _ _ missing, omega (arith, missing.size))
 
 put-counts-requires : tie.Need-put-counts-requires
 put-counts-requires c κs =
     let summed : tie.After-sum-up = search in
     let pre = (start summed).pre in
-    let row = least-row _ pre.0 _ pre.1.0 _ _ (counted summed).count-all.ensures.0 in
+    let row = least_row _ pre.0 _ pre.1.0 _ _ (counted summed).count-all.ensures.0 in
     (pre.0, (pre.1.0, (pre.1.1.0, (row, ((all summed).short, ((all summed).total, pre.1.1.1))))))
 
 put-verdict-requires : tie.Need-put-verdict-requires

@@ -7,7 +7,7 @@ use Rattle.sheet.specs.Faultless.{Faultless}
 use Rattle.counts.proofs.gained.Symbol as callee-def
 use Rattle.counts.proofs.gained.Symbol.{name as #callee}
 use Rattle.counts.proofs.gained.Met as callee-thm
-use Rattle.reader.proofs.Lookups.{SideAsked, Callee, lookup-meets, side_asked}
+use Rattle.reader.proofs.Lookups.{SideAsked, Callee, lookup_meets, side_asked}
 use Rattle.reader.specs.contracts.gained.Key.{name as #own}
 use Rattle.reader.specs.contracts.gained as own
 use Rattle.reader.proofs.gained.Statement as stated
@@ -19,5 +19,5 @@ gained-spec 𝓤 𝓛 𝓜 𝓡 =
     let to = tables 𝓤 𝓛.H 𝓜 𝓡 code.env in
     let asked = side_asked 𝓛 in
     entered 𝓤 𝓛.H (triple_of 𝓛 own.signature (own.spec 𝓛 𝓜.mem 𝓡.run)) to.C to.Λ #own code.function (code.unfolded 𝓤 𝓛.H 𝓜 𝓡)
-    (lookup-meets 𝓛 Faultless gained_at (SideAsked 𝓤) asked (tables_of 𝓤 𝓛.H 𝓜 to) #callee
+    (lookup_meets 𝓛 Faultless gained_at (SideAsked 𝓤) asked (tables_of 𝓤 𝓛.H 𝓜 to) #callee
     (cited 𝓤 𝓛.H (Callee 𝓛 Faultless gained_at (SideAsked 𝓤) asked) 𝓜 𝓡 code.env #callee callee-def.routine code.calls-counts::gained (callee-thm.met 𝓤 𝓛 𝓜 𝓡)))

@@ -4,7 +4,7 @@ use denote.Triple.Spec.{triple_of}
 use denote.Triple.Table.{entered, cited}
 use Rattle.sheet.specs.Items.{opening_at}
 use Rattle.sheet.specs.Laid.{Laid}
-use Rattle.reader.proofs.Plain.{Read, Lookup, plain-meets}
+use Rattle.reader.proofs.Plain.{Read, Lookup, plain_meets}
 use Rattle.reader.proofs.read.Symbol as read-def
 use Rattle.reader.proofs.read.Symbol.{name as #read}
 use Rattle.reader.proofs.read.Met as read-thm
@@ -21,6 +21,6 @@ unfolding code.routine tables_of
 opening-of-spec 𝓤 𝓛 𝓜 𝓡 =
     let to = tables 𝓤 𝓛.H 𝓜 𝓡 code.env in
     entered 𝓤 𝓛.H (triple_of 𝓛 own.signature (own.spec 𝓛 𝓜.mem 𝓡.run)) to.C to.Λ #own code.function (code.unfolded 𝓤 𝓛.H 𝓜 𝓡)
-    (plain-meets Laid opening_at 𝓛 𝓜.mem 𝓡.run (λ s known. known.limited.table) (tables_of 𝓤 𝓛.H 𝓜 to)
+    (plain_meets Laid opening_at 𝓛 𝓜.mem 𝓡.run (λ s known. known.limited.table) (tables_of 𝓤 𝓛.H 𝓜 to)
     (cited 𝓤 𝓛.H (Read Laid opening_at 𝓛 𝓜.mem 𝓡.run) 𝓜 𝓡 code.env #read read-def.routine code.calls-reader::read (read-thm.met 𝓤 𝓛 𝓜 𝓡)) #callee
     (cited 𝓤 𝓛.H (Lookup Laid opening_at 𝓛 𝓜.mem 𝓡.run) 𝓜 𝓡 code.env #callee callee-def.routine code.calls-reader::opening (callee-thm.met 𝓤 𝓛 𝓜 𝓡)))

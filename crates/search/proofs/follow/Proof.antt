@@ -5,7 +5,7 @@ use borrow.Author.Rules.{rules}
 use Rattle.last_mark.specs.Found.{Only}
 use Rattle.search.specs.Trail.{takers_of}
 use Rattle.search.specs.Steps.{Following}
-use Rattle.finite.specs.Queue.{queued-room}
+use Rattle.finite.specs.Queue.{queued_room}
 use Rattle.search.proofs.Rounds.{all_in, unlisted, follow_start, follow_more}
 use Rattle.search.proofs.follow.Statement.{statement}
 use Rattle.search.proofs.follow.Tie as tie
@@ -27,7 +27,7 @@ fresh c = let told = rw c.x.given.1 at c.before.before.last-only.ensures in sear
 
 -- there is room for it
 fits : (c : tie.After-x invariant-loop decreases-loop) → (head c).loop.end < 256
-fits c = queued-room (head c).loop.invariant.longer.queued c.x.given.0.0 (fresh c).below (unlisted (fresh c))
+fits c = queued_room (head c).loop.invariant.longer.queued c.x.given.0.0 (fresh c).below (unlisted (fresh c))
 
 returns : tie.Need-returns invariant-loop decreases-loop
 returns c = (search, all_in (rw c.enum_told.given.1 at c.before.before.last-only.ensures))

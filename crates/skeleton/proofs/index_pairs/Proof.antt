@@ -6,7 +6,7 @@ use borrow.Author.Rules.{rules}
 use Rattle.ids.specs.Limits.{most_events}
 use Rattle.sheet.specs.Items.{plan_of}
 use Rattle.skeleton.specs.Linked.{Linked}
-use Rattle.skeleton.proofs.Links.{links_none, links_all, within, link-skip, link-more}
+use Rattle.skeleton.proofs.Links.{links_none, links_all, within, link_skip, link_more}
 use Rattle.skeleton.proofs.index_pairs.Statement.{statement}
 use Rattle.skeleton.proofs.index_pairs.Tie as tie
 
@@ -47,8 +47,8 @@ loop-again c =
     let links = at-loop.loop.inv.1 in (
       search rules,
       ⊎_elim
-          (λ t. link-more known (omega arith) a b rows told links t.0.taken t.2.ensures t.4.ensures t.5 t.6)
-          (λ t. link-skip known (omega arith) a b rows told links t.0.left t.1 t.2)
+          (λ t. link_more known (omega arith) a b rows told links t.0.taken t.2.ensures t.4.ensures t.5 t.6)
+          (λ t. link_skip known (omega arith) a b rows told links t.0.left t.1 t.2)
           c.if1.branch,
     )
 

@@ -5,7 +5,7 @@ use mathlib.Core.Path.{◌≡◌}
 use borrow.Author.Rules.{rules}
 use lib.ListN.{get_or}
 use Rattle.skeleton.specs.Lists.{start_at}
-use Rattle.skeleton.proofs.Seeking.{Seeking, seek_some, seek_start, seek_few, seek_end, seek-more, seek-less, seek-next}
+use Rattle.skeleton.proofs.Seeking.{Seeking, seek_some, seek_start, seek_few, seek_end, seek_more, seek_less, seek_next}
 use Rattle.skeleton.proofs.pair_number.Statement.{statement}
 use Rattle.skeleton.proofs.pair_number.Tie as tie
 
@@ -43,15 +43,15 @@ other : (c : tie.Then1 invariant-loop decreases-loop) → ¬ (get_or (start (loo
 other c = let read : tie.After-entry2 invariant-loop decreases-loop = search in λ e. omega (arith, c.if1.true, read.entry2.ensures)
 
 more : tie.Need-overflow-sub-i-2 invariant-loop decreases-loop
-more c = omega (arith, c.entry3.ensures, seek-more (seeking (search)) (other (search)))
+more c = omega (arith, c.entry3.ensures, seek_more (seeking (search)) (other (search)))
 
 loop-less : tie.Need-loop-smaller invariant-loop decreases-loop
-loop-less c = omega (arith, c.entry3.ensures, seek-less (seeking (search)) (other (search)))
+loop-less c = omega (arith, c.entry3.ensures, seek_less (seeking (search)) (other (search)))
 
 loop-again : tie.Need-loop-preserved invariant-loop decreases-loop
 loop-again c =
     let at-loop : tie.At-loop invariant-loop decreases-loop = search in
-    λ b sought. seek-next (at-loop.loop.inv b sought) (other (search)) _ (omega (arith, c.entry3.ensures))
+    λ b sought. seek_next (at-loop.loop.inv b sought) (other (search)) _ (omega (arith, c.entry3.ensures))
 
 returns : tie.Need-returns invariant-loop decreases-loop
 returns c =

@@ -5,7 +5,7 @@ use borrow.Author.Rules.{rules}
 use lib.ListN.{get_or}
 use Rattle.ids.specs.Limits.{most_events, most_pairs}
 use Rattle.sorting.specs.Rows.{plan_by}
-use Rattle.sorting.proofs.Lists.{head_few, queued_event, queued_few, walking_start, walking-end, walking-pair, walking-less, walking-needs, walking-more}
+use Rattle.sorting.proofs.Lists.{head_few, queued_event, queued_few, walking_start, walking_end, walking_pair, walking_less, walking_needs, walking_more}
 use Rattle.sorting.proofs.Walks.{Walk}
 use Rattle.sorting.proofs.follow.Statement.{statement}
 use Rattle.sorting.proofs.follow.Tie as tie
@@ -45,7 +45,7 @@ more c = omega (arith, c.loop-test.true)
 below : (c : tie.In-loop invariant-loop decreases-loop) → c.before.loop.at - 1 < most_pairs
 below c =
     let within = (start c).requires.0 in
-    omega (arith, walking-pair _ _ _ _ _ (start c).requires.1.0 within.few within.named _ _ _ _ c.before.loop.invariant (more c), within.most)
+    omega (arith, walking_pair _ _ _ _ _ (start c).requires.1.0 within.few within.named _ _ _ _ c.before.loop.invariant (more c), within.most)
 
 -- it ends at an event that waits for it, and there is room in the queue
 ends : (c : tie.In-loop invariant-loop decreases-loop)
@@ -53,7 +53,7 @@ ends : (c : tie.In-loop invariant-loop decreases-loop)
     × (1 ≤ get_or c.before.loop.left (get_or (start c).args.to.now (c.before.loop.at - 1) 0) 0) × (c.before.loop.end < most_events)
 ends c =
     let within = (start c).requires.0 in
-    walking-needs _ _ _ _ _ (start c).requires.1.0 within.few within.named _ _ _ _ c.before.loop.invariant (more c)
+    walking_needs _ _ _ _ _ (start c).requires.1.0 within.few within.named _ _ _ _ c.before.loop.invariant (more c)
 
 lower-requires : tie.Need-lower-requires invariant-loop decreases-loop
 lower-requires c κs =
@@ -64,7 +64,7 @@ lower-requires c κs =
 
 -- the next pair of the list is an earlier one
 less : (c : tie.In-loop invariant-loop decreases-loop) → get_or (start c).args.next.now (c.before.loop.at - 1) 0 < c.before.loop.at
-less c = walking-less _ _ _ _ _ (start c).requires.1.0 (start c).requires.0.few (start c).requires.0.named _ _ _ _ c.before.loop.invariant (more c)
+less c = walking_less _ _ _ _ _ (start c).requires.1.0 (start c).requires.0.few (start c).requires.0.named _ _ _ _ c.before.loop.invariant (more c)
 
 next_fits : tie.Need-overflow-cast-at-4 invariant-loop decreases-loop
 next_fits c = omega (arith, less (search), below (search))
@@ -74,12 +74,12 @@ loop-again c =
     let turn : tie.In-loop invariant-loop decreases-loop = search in
     let lowered : tie.After-lower invariant-loop decreases-loop = search in
     let within = (start turn).pre.0 in
-    walking-more _ _ _ _ _ (start turn).pre.1.0 within.few within.named _ _ _ _ turn.before.loop.inv (more turn) lowered.lower.ensures
+    walking_more _ _ _ _ _ (start turn).pre.1.0 within.few within.named _ _ _ _ turn.before.loop.inv (more turn) lowered.lower.ensures
 
 returns : tie.Need-returns invariant-loop decreases-loop
 returns c =
     let start : tie.Start invariant-loop decreases-loop = search in
-    walking-end _ _ _ _ _ start.pre.1.0 start.pre.0.few start.pre.0.named _ _ _ _ c.before.loop.invariant (omega (arith, c.loop-test.false))
+    walking_end _ _ _ _ _ start.pre.1.0 start.pre.0.few start.pre.0.named _ _ _ _ c.before.loop.invariant (omega (arith, c.loop-test.false))
 
 pub follow-spec : {M : Type 1} → statement M
 follow-spec =

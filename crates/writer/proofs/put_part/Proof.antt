@@ -3,7 +3,7 @@ use Prim.Native.Nat.{◌+◌, ◌-◌, ◌≤◌}
 use native.Mathlib.Omega.{arith}
 use mathlib.Core.Path.{◌∙◌}
 use borrow.Author.Rules.{rules}
-use Rattle.writer.proofs.Copying.{Copied, copied-start, copied_more, copied-done}
+use Rattle.writer.proofs.Copying.{Copied, copied_start, copied_more, copied_done}
 use Rattle.writer.proofs.put_part.Statement.{statement}
 use Rattle.writer.proofs.put_part.Tie as tie
 
@@ -29,7 +29,7 @@ returns c =
     let left : tie.After-loop invariant-loop decreases-loop = search in
     let held = left.before.loop.inv in
     let end = start.args.at + (start.args.to - start.args.from) in
-    let all = copied-done _ _ _ _ _ _ _ _ held.1 (omega arith) end (omega arith) held.2 in
+    let all = copied_done _ _ _ _ _ _ _ _ held.1 (omega arith) end (omega arith) held.2 in
     ((all.put, omega arith), all.bytes)
 
 pub put-part-spec : {M : Type 1} → statement M
@@ -38,7 +38,7 @@ put-part-spec =
     (tie.spec
     invariant-loop
     decreases-loop
-    (λ c. (search rules, search rules, copied-start _ _ _ _ (omega arith) _ (omega arith)))
+    (λ c. (search rules, search rules, copied_start _ _ _ _ (omega arith) _ (omega arith)))
     (λ c κs. search rules)
     (λ c κs. search rules)
     (λ c. search rules)
