@@ -108,6 +108,12 @@ def turn(text, found, fields):
     return WORD.sub(word, text)
 
 
+def of_library(text):
+    """The names that a file takes from a library."""
+    lines = re.findall(r"^use (?!Rattle\.(?!std\b|core\b))\S+\.\{([^}]*)\}", text, re.M)
+    return {part.split(" as ")[0].strip() for line in lines for part in line.split(",")}
+
+
 def main(argv):
     found, fields = names()
     found, clash = apart(found)
@@ -119,7 +125,8 @@ def main(argv):
         return 0
     for path in files((".antt", ".rt", ".edit")):
         old = read(path)
-        new = "\n".join(l if path.endswith(".edit") and l.startswith("#") else turn(l, found, fields) for l in old.split("\n"))
+        here = {o: n for o, n in found.items() if o not in of_library(old)}
+        new = "\n".join(l if path.endswith(".edit") and l.startswith("#") else turn(l, here, fields) for l in old.split("\n"))
         if new != old:
             with open(path, "w", encoding="utf-8") as f:
                 f.write(new)

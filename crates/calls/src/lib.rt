@@ -10,7 +10,7 @@ use ids::Place;
 use sheet::{Fault, no_fault, plain_fault};
 
 // The answer of a call that writes a sheet or a text into a lent row: how long it is.
-#[derive(Drop)]
+#[derive(Clone, Copy)]
 pub enum Written {
     Refused(Fault),
     Length(usize),

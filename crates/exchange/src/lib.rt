@@ -70,7 +70,7 @@ fn taker_place(
 }
 
 // The giver at which a walk goes on, if there is one.
-#[derive(Drop)]
+#[derive(Clone, Copy)]
 pub enum Giver {
     At(Event),
     Nothing,
@@ -102,7 +102,7 @@ fn next_giver(
 }
 
 // What a step of a walk comes to.
-#[derive(Drop)]
+#[derive(Clone, Copy)]
 pub enum Step {
     Drew,
     Stuck,

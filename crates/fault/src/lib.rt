@@ -14,7 +14,7 @@ use order::{Wanted, order_fault};
 use sheet::Fault;
 
 // What a sheet was found to be: its fault, and its layout, with no items where a fault of the layout leaves it without one.
-#[derive(Drop)]
+#[derive(Clone, Copy)]
 pub struct Examined {
     pub fault: Fault,
     pub layout: Layout,

@@ -25,7 +25,7 @@ use sheet::Fault;
 
 mod rules; // rules.rt: the rules at one event and for the sum of the shares
 
-#[derive(Drop)]
+#[derive(Clone, Copy)]
 pub enum Checked {
     Refused(Fault),
     Valid,

@@ -4,13 +4,13 @@
 
 // Exported calls take it, and C passes it as a `size_t`.
 #[repr(C)]
-#[derive(Drop)]
+#[derive(Clone, Copy)]
 pub struct Place(pub usize);
 
-#[derive(Drop)]
+#[derive(Clone, Copy)]
 pub struct Transition(pub usize);
 
-#[derive(Drop)]
+#[derive(Clone, Copy)]
 pub struct Event(pub usize);
 
 // The most items of each entry of a sheet.

@@ -19,7 +19,7 @@ use rising::has_cycle;
 use sheet::{Fault, no_fault, plain_fault};
 
 // What the pairs of a sheet were found to be: the fault that stands in the way, the sheet's layout where there is none, and how many are kept.
-#[derive(Drop)]
+#[derive(Clone, Copy)]
 pub struct PairsExamined {
     pub examined: Examined,
     pub kept: usize,

@@ -9,7 +9,7 @@ use ids::WORDS;
 use marks::BITS;
 
 // What a search in two rows finds.
-#[derive(Drop)]
+#[derive(Clone, Copy)]
 pub enum Found {
     At(usize),
     Nothing,

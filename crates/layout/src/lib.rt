@@ -21,7 +21,7 @@ pub const TABLE: usize = 32;
 pub const LONGEST: usize = TABLE + 4 * PLACES + 4 * PLACES * TRANSITIONS + 2 * EVENTS + 4 * PAIRS;
 
 // How many items each body has, and where it starts.
-#[derive(Drop)]
+#[derive(Clone, Copy)]
 pub struct Layout {
     pub places: usize,
     pub transitions: usize,

@@ -1,7 +1,7 @@
 -- What storing one word does to the marks: a mark is added or removed, or a row joined word by word.
 use Prim.Native.Nat.{ℕ, ◌+◌, ◌-◌, ◌*◌, ◌/◌, ◌%◌, ◌^◌, ◌≤◌, ◌<◌}
 use native.Mathlib.Omega.{arith}
-use mathlib.Core.Bool.{Bool, true, false, not, ◌&&◌, ◌||◌, and-true, and-false, or_false, or_self}
+use mathlib.Core.Bool.{Bool, true, false, not, ◌&&◌, ◌||◌, and-true, and-false, or-false, or_self}
 use mathlib.Core.List.{List}
 use mathlib.Core.Logic.{⊎_elim}
 use mathlib.Core.Path.{◌≡◌, refl, sym, ap, subst, ◌∙◌}
@@ -39,7 +39,7 @@ word_change f keeps rows p y q k x h e = ⊎_elim at_it elsewhere (decide (eqb q
 word_or : (rows : List ℕ) (p x q k : ℕ) → p < length rows
     → bit (get_or (set rows p (bit_or (get_or rows p 0) x)) q 0) k ≡ (bit (get_or rows q 0) k || (eqb q p && bit x k))
 word_or rows p x q k h =
-    word_change ◌||◌ or_false rows p (bit_or (get_or rows p 0) x) q k (bit x k) h (bit_or_lem (get_or rows p 0) x k)
+    word_change ◌||◌ or-false rows p (bit_or (get_or rows p 0) x) q k (bit x k) h (bit_or_lem (get_or rows p 0) x k)
 
 -- a, unless it is removed
 without : Bool → Bool → Bool
@@ -127,7 +127,7 @@ pub record Joining (old new : List ℕ) (from into k : ℕ) : Type 0 where
 
 pub start : (rows : List ℕ) (from into k : ℕ) → k ≡ 0 → Joining rows rows from into k
 start rows from into k none =
-    record { size = refl; marks = λ u v h. rw (le-ltb (v / 32) k (omega arith)) (simp (and-false, or_false)) }
+    record { size = refl; marks = λ u v h. rw (le-ltb (v / 32) k (omega arith)) (simp (and-false, or-false)) }
 
 -- One word more, as a test: q says that it is the mark's word, l and m that the mark's word is among the first k, or k + 1.
 one_more : (a e l f q x m : Bool) → (T q → T e) → (T q → T m) → (T q → x ≡ f) → (T (not q) → T e → l ≡ m)
@@ -138,7 +138,7 @@ one_more false true l f true x false h1 h2 h3 h4 = absurd (h2 tt)
 one_more false true true f true x true h1 h2 h3 h4 = ap (λ (b : Bool). f || b) (h3 tt) ∙ or_self f
 one_more false true false f true x true h1 h2 h3 h4 = h3 tt
 one_more false false l f false x m h1 h2 h3 h4 = refl
-one_more false true l f false x m h1 h2 h3 h4 = or_false (l && f) ∙ ap (λ (b : Bool). b && f) (h4 tt tt)
+one_more false true l f false x m h1 h2 h3 h4 = or-false (l && f) ∙ ap (λ (b : Bool). b && f) (h4 tt tt)
 
 -- the word that is read has not changed, also where both rows are the same
 unchanged : (old new : List ℕ) (from into k v : ℕ) → v < 256 → v / 32 ≡ k → Joining old new from into k
@@ -146,7 +146,7 @@ unchanged : (old new : List ℕ) (from into k v : ℕ) → v < 256 → v / 32 �
 unfolding marked
 unchanged old new from into k v h e g =
     ap (λ (d : ℕ). bit (get_or new (from * 8 + d) 0) (v % 32)) (sym e) ∙ g.marks from v h
-    ∙ rw (le-ltb (v / 32) k (omega arith)) (simp (and-false, or_false))
+    ∙ rw (le-ltb (v / 32) k (omega arith)) (simp (and-false, or-false))
 
 ltb_other : (d k : ℕ) → (d ≡ k → ⊥) → ltb d k ≡ ltb d (k + 1)
 ltb_other d k ne =

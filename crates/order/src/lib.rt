@@ -24,7 +24,7 @@ use sheet::{Fault, item_fault, no_fault, plain_fault};
 use sorting::sort_events;
 
 // The rows that a caller wants: of what is before each event, of what is after it. A fault is told without either.
-#[derive(Drop)]
+#[derive(Clone, Copy)]
 pub struct Wanted {
     pub ahead: bool,
     pub after: bool,

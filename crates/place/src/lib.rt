@@ -89,7 +89,7 @@ fn less(opening: u32, least: u32) -> i32
 }
 
 // What a place is told to lack and to have: the missing count and the spare count.
-#[derive(Drop)]
+#[derive(Clone, Copy)]
 pub struct PlaceCounts {
     pub missing: u32,
     pub spare: i32,

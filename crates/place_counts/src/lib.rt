@@ -18,7 +18,7 @@ use lookup::opening;
 use place::{above, settle_place};
 
 // Whether a place is short, and the marks of the done set of the first one that is.
-#[derive(Drop)]
+#[derive(Clone, Copy)]
 pub struct First {
     pub short: bool,
     pub done: [u32; WORDS],

@@ -12,7 +12,7 @@ use sheet::Fault;
 use sized_judging::judge_within;
 
 // A spare count below 0 says that the plan doesn't run at the place.
-#[derive(Drop)]
+#[derive(Clone, Copy)]
 pub enum Judgement {
     Refused(Fault),
     Spare(i32),

@@ -12,7 +12,7 @@ use sheet::Fault;
 use sized_counts::count_all;
 use summary::{Totals, sum_up};
 
-#[derive(Drop)]
+#[derive(Clone, Copy)]
 pub enum Answer {
     Refused(Fault),
     Judged(Totals),

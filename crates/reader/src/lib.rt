@@ -13,7 +13,7 @@ ghost use Rattle.reader.specs.Reads.{Reads, reader_of};
 use ids::Place;
 use layout::{Layout, layout_of};
 
-#[derive(Drop)]
+#[derive(Clone, Copy)]
 pub struct Reader<'a> {
     sheet: &'a [u8],
     layout: Layout,

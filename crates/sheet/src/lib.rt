@@ -8,7 +8,7 @@ ghost use Rattle.sheet.specs.Told.{fault_at, no_fault};
 
 // The number of a fault and the item at fault: the number of a place, transition, event or pair, 0 where the fault has none. Both are 0
 // where there is no fault.
-#[derive(Drop)]
+#[derive(Clone, Copy)]
 pub struct Fault {
     pub number: u32,
     pub item: u32,

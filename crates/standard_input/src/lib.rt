@@ -1,7 +1,7 @@
 // A sheet read from standard input, for the programs.
 #![tactic(auto)]
 
-#[derive(Drop)]
+#[derive(Clone, Copy)]
 pub enum Input {
     Bytes(usize),
     Failed,

@@ -9,14 +9,14 @@ ghost use Rattle.summary.specs.Summary.{VerdictOf, NextVerdict, verdict_number, 
 use ids::Place;
 
 // A plan runs, or is short at a first place by a missing count.
-#[derive(Drop)]
+#[derive(Clone, Copy)]
 pub enum Verdict {
     Runs,
     Short(Place, u32),
 }
 
 // What is missing in all, how many places are short, and the verdict.
-#[derive(Drop)]
+#[derive(Clone, Copy)]
 pub struct Totals {
     pub total: u32,
     pub short: u32,

@@ -1,7 +1,7 @@
 -- What storing a number for a giver and a taker, and setting or clearing their mark, does to the amounts.
 use Prim.Native.Nat.{ℕ, ◌+◌, ◌*◌, ◌<◌}
 use native.Mathlib.Omega.{arith}
-use mathlib.Core.Bool.{Bool, false, not, ◌&&◌, ◌||◌, or_false}
+use mathlib.Core.Bool.{Bool, false, not, ◌&&◌, ◌||◌, or-false}
 use mathlib.Core.List.{List}
 use mathlib.Core.Logic.{◌⊎◌, inl, inr, ⊎_elim}
 use mathlib.Core.Path.{◌≡◌, refl, sym, ap, ap₂, subst, subst₂, ◌∙◌}
@@ -60,7 +60,7 @@ module _ (amount fed amount' fed' : List ℕ) (u w k : ℕ) (hw : w < 256) (more
       → fed_by amount' fed' a b ≡ fed_by amount fed a b + on (eqb u a) (on (eqb w b) k)
   unfolding fed_by
   else_same a b hb e n =
-      omega (arith, e.none k, ap₂ on (more.marks a b hb ∙ ap (λ (t : Bool). marked fed a b || t) e.apart ∙ or_false (marked fed a b)) n)
+      omega (arith, e.none k, ap₂ on (more.marks a b hb ∙ ap (λ (t : Bool). marked fed a b || t) e.apart ∙ or-false (marked fed a b)) n)
 
   raised : length amount' ≡ length amount → ((i : ℕ) → ¬ (i ≡ u * 256 + w) → get_or amount' i 0 ≡ get_or amount i 0)
       → get_or amount' (u * 256 + w) 0 ≡ fed_by amount fed u w + k → Raised amount fed amount' fed' u w k
