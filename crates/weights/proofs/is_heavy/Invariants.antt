@@ -1,0 +1,11 @@
+-- The invariant: it is known whether a weight of the transition so far is above the limit.
+use Rattle.std.proofs.Common.{◌≤◌, ◌-◌, ◌≡◌}
+use Rattle.finite.specs.Bounded.{any}
+use Rattle.sheet.specs.Faults.{over_weight_at}
+use Rattle.weights.proofs.is_heavy.Given as goal
+
+abbrev pub invariant-loop-p : goal.invariant-loop-p
+invariant-loop-p l = (l.p ≤ l.l.places) × (l.heavy ≡ any l.p (over_weight_at l.s l.t.0))
+
+abbrev pub decreases-loop-p : goal.decreases-loop-p
+decreases-loop-p l = l.l.places - l.p
