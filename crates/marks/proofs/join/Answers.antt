@@ -1,0 +1,12 @@
+use Rattle.std.proofs.Common.{◌-◌, arith, refl, rules}
+use Rattle.marks.proofs.Rows.{start, more, done}
+use Rattle.marks.proofs.join.Goals as goal
+
+pub loop-k-init : goal.loop-k-init
+loop-k-init c = (search rules, start _ _ _ _ (omega arith))
+
+pub loop-k-preserved : goal.loop-k-preserved
+loop-k-preserved c = (search rules, more _ _ _ _ _ _ _ (omega arith) (omega arith) c.loop-k.invariant.1 (omega arith) refl)
+
+pub returns : goal.returns
+returns c = done _ _ _ _ _ (omega arith) c.loop-k.invariant.1
