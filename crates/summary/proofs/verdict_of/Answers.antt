@@ -1,0 +1,15 @@
+use Rattle.std.proofs.Common.{arith, ◌≡◌, subst}
+use Rattle.summary.specs.Summary.{count_at, VerdictOf}
+use Rattle.summary.proofs.Verdicts.{none_yet}
+use Rattle.summary.proofs.verdict_of.Goals as goal
+
+pub loop-p-init : goal.loop-p-init
+loop-p-init c = (omega arith, none_yet (count_at c.args.row.now) _ (omega arith))
+
+pub loop-p-preserved : goal.loop-p-preserved
+loop-p-preserved c = (omega arith, c.keep_first-v.ensures (count_at c.args.row.now) (omega arith) c.loop-p.invariant.1)
+
+pub returns : goal.returns
+returns c =
+    let all : c.loop-p.p ≡ c.args.n = omega arith in
+    subst (λ k. VerdictOf (count_at c.args.row.now) k c.loop-p.v) all c.loop-p.invariant.1
