@@ -1,5 +1,5 @@
 -- Pairs that all go to higher numbers, or all to lower ones, have no cycle: "before" goes the same way.
-use Rattle.std.specs.Prelude.{ℕ, ◌<◌, Bool, true, false, List, ◌≡◌, T, ltb, get_or}
+use Rattle.std.specs.Prelude.{ℕ, ◌<◌, Bool, true, false, List, ◌≡◌, ltb, get_or}
 use Rattle.std.proofs.Common.{arith, ltb→lt}
 use denote.Floats.{passes}
 use Rattle.std.specs.Float.Ieee.Bits.{is_false}
