@@ -1,3 +1,4 @@
+-- `is-reason`: the marks say the reason.
 use Rattle.std.proofs.Common.{◌<◌, arith, ◌≡◌, ◌∙◌, rules, length, length-set}
 use Rattle.ids.specs.Limits.{most_pairs}
 use Rattle.sheet.specs.Table.{pairs_of}
@@ -17,7 +18,10 @@ keep-kept-requires c =
     c.reason_of-reason.ensures
     ∙ reason_marked _ _ _ c.loop-i.invariant.2.marked laid.0.limited.events _ _ _ laid.1.events c.earlier-a.ensures c.later-b.ensures in
     let below : c.loop-i.kept < most_pairs =
-    omega (arith, so_far_few _ _ _ _ _ _ _ _ c.loop-i.invariant.2, c.loop-i-test.true, laid.1.pairs, laid.0.limited.pairs) in record { a_lt_most_events = ends_few _ _ _ _ _ laid.0.limited.events c.earlier-a.ensures c.later-b.ensures is-reason; at_in_bounds = (omega arith, omega arith) }
+    omega (arith, so_far_few _ _ _ _ _ _ _ _ c.loop-i.invariant.2, c.loop-i-test.true, laid.1.pairs, laid.0.limited.pairs) in record {
+      a_lt_most_events = ends_few _ _ _ _ _ laid.0.limited.events c.earlier-a.ensures c.later-b.ensures is-reason;
+      at_in_bounds = (omega arith, omega arith);
+    }
 
 pub overflow_add-kept : goal.overflow_add-kept
 overflow_add-kept c =
