@@ -1,7 +1,7 @@
 // Mends the sheet on standard input: the clean sheet on standard output, and on standard error a line for each pair that was dropped. At most one byte more
 // than the longest sheet has is read, which is enough to fault a longer one rightly.
 //
-// A program has no exit status: a sheet that is refused has nothing on standard output, and one line on standard error that says so.
+// A sheet that is refused has nothing on standard output, and one line on standard error that says so. The exit status is 0 in any case.
 #![tactic(auto)]
 
 mod words;
@@ -16,25 +16,33 @@ use mending::mend;
 use numbers::get16;
 use sheet::Fault;
 use standard_input::{Input, read_sheet};
+use std::io;
+use std::io::Write;
 use words::{put_dropped, put_refused};
 
 // The room of a line on standard error.
 const LINE: usize = 100;
 
-fn say(line: &[u8], n: usize) {
+// Where standard error can't be written, nothing is left to be done.
+fn say(rt: &HostRuntime, line: &[u8], n: usize) {
     if n <= line.len() {
-        io::write_all(libc::STDERR_FILENO, &line[0..n]);
+        let _ = rt.stderr().write_all(&line[0..n]);
     }
 }
 
-fn refuse(f: Fault) {
+// Says on standard error what failed.
+fn fail(rt: &HostRuntime, what: &str, error: io::Error) {
+    let _ = eprintln!(rt; "mend: {what}: {error}");
+}
+
+fn refuse(rt: &HostRuntime, f: Fault) {
     let mut line = [0u8; LINE];
     let n = put_refused(&mut line, f);
-    say(&line, n);
+    say(rt, &line, n);
 }
 
 // Says of pair i why it was dropped, if it was.
-fn tell_pair(sheet: &[u8], l: Layout, i: usize, reason: u8)
+fn tell_pair(rt: &HostRuntime, sheet: &[u8], l: Layout, i: usize, reason: u8)
     requires { i < most_pairs }
 {
     if reason == 0 {
@@ -52,58 +60,63 @@ fn tell_pair(sheet: &[u8], l: Layout, i: usize, reason: u8)
                 get16(pairs, 4 * i + 2),
                 reason,
             );
-            say(&line, n);
+            say(rt, &line, n);
         }
     }
 }
 
 // Says of each dropped pair why. A sheet that was mended has a table.
-fn tell_reasons(sheet: &[u8], reasons: &[u8; PAIRS]) {
+fn tell_reasons(rt: &HostRuntime, sheet: &[u8], reasons: &[u8; PAIRS]) {
     if sheet.len() < TABLE {
         return;
     }
     let l = layout_of(sheet);
     for i in 0..PAIRS {
         if i < l.pairs {
-            tell_pair(sheet, l, i, reasons[i]);
+            tell_pair(rt, sheet, l, i, reasons[i]);
         }
     }
 }
 
-fn print(clean: &[u8], n: usize) -> bool {
-    if n <= clean.len() {
-        return io::write_all(1, &clean[0..n]);
+// Whether the clean sheet was printed; where it wasn't, standard error says why.
+fn print(rt: &HostRuntime, clean: &[u8], n: usize) -> bool {
+    if n > clean.len() {
+        return false;
     }
-    false
+    match rt.stdout().write_all(&clean[0..n]) {
+        Ok(()) => true,
+        Err(error) => {
+            fail(rt, "standard output can't be written", error);
+            false
+        }
+    }
 }
 
-fn mend_sheet(sheet: &[u8]) {
+fn mend_sheet(rt: &HostRuntime, sheet: &[u8]) {
     let mut clean = [0u8; LONGEST];
     let mut reasons = [0u8; PAIRS];
     let mended = mend(sheet, &mut clean, &mut reasons);
     match mended {
-        Written::Refused(f) => refuse(f),
+        Written::Refused(f) => refuse(rt, f),
         Written::Length(n) => {
-            if print(&clean, n) {
-                tell_reasons(sheet, &reasons);
-            } else {
-                os::fail(b"mend: standard output can't be written");
+            if print(rt, &clean, n) {
+                tell_reasons(rt, sheet, &reasons);
             }
         }
     }
 }
 
-fn mend_part(row: &[u8], n: usize) {
+fn mend_part(rt: &HostRuntime, row: &[u8], n: usize) {
     if n <= row.len() {
-        mend_sheet(&row[0..n]);
+        mend_sheet(rt, &row[0..n]);
     }
 }
 
-fn main() {
+fn main(rt: HostRuntime) {
     let mut row = [0u8; LONGEST + 1];
-    let input = read_sheet(&mut row);
+    let input = read_sheet(&mut rt.stdin(), &mut row);
     match input {
-        Input::Bytes(n) => mend_part(&row, n),
-        Input::Failed => os::fail(b"mend: standard input can't be read"),
+        Input::Bytes(n) => mend_part(&rt, &row, n),
+        Input::Failed(error) => fail(&rt, "standard input can't be read", error),
     }
 }
