@@ -1,0 +1,11 @@
+-- The invariant: the skeleton pairs among the first i are marked and listed.
+use Rattle.std.proofs.Common.{◌-◌, ◌≤◌}
+use Rattle.sheet.specs.Items.{plan_of}
+use Rattle.skeleton.specs.Linked.{Linked}
+use Rattle.skeleton.proofs.index_pairs.Given as goal
+
+abbrev pub invariant-loop-i : goal.invariant-loop-i
+invariant-loop-i l = (l.i ≤ l.l.pairs) × Linked (plan_of l.s) l.i l.skel l.index
+
+abbrev pub decreases-loop-i : goal.decreases-loop-i
+decreases-loop-i l = l.l.pairs - l.i
