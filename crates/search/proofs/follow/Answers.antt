@@ -13,7 +13,8 @@ pub list-requires : goal.list-requires
 list-requires c =
     let fresh = c.in-At.ensures in
     let fits : c.loop-x.end < 256 = queued_room c.loop-x.invariant.longer.queued c.in-At.x fresh.below (unlisted fresh) in
-    (fits, fresh.below)
+    let below = fresh.below in
+    search rules
 
 pub put-requires : goal.put-requires
 put-requires c =
