@@ -1,4 +1,4 @@
-// The open calls for C: pointers and lengths for the bytes and rows that are lent, and the answer told in numbers.
+// The open calls for C: the bytes and rows that are lent, and the answer told in numbers. The crate reedanchor_c exports them.
 #![tactic(auto)]
 
 ghost use Rattle.std.specs.Prelude.{◌≡◌};
@@ -22,8 +22,7 @@ use plan_judgement::judge_plan;
 use till::answer_number;
 
 // The till server's call. The row that it lends has a number for each place that a sheet may have, so fault 13 doesn't arise.
-#[unsafe(no_mangle)]
-pub extern "C" fn reedanchor_judge(sheet: &[u8]) -> u32
+pub fn reedanchor_judge(sheet: &[u8]) -> u32
     ensures { result ≡ till_answer sheet.now }
 {
     let mut row = [0u32; PLACES];
@@ -32,8 +31,7 @@ pub extern "C" fn reedanchor_judge(sheet: &[u8]) -> u32
 }
 
 // The fault of a sheet.
-#[unsafe(no_mangle)]
-pub extern "C" fn reedanchor_fault(sheet: &[u8], item: &mut u32) -> u32
+pub fn reedanchor_fault(sheet: &[u8], item: &mut u32) -> u32
     ensures { FaultTold (fault_of sheet.now) result item.new }
 {
     let f = fault_of(sheet);
@@ -41,8 +39,7 @@ pub extern "C" fn reedanchor_fault(sheet: &[u8], item: &mut u32) -> u32
 }
 
 // The plan judgement.
-#[unsafe(no_mangle)]
-pub extern "C" fn reedanchor_plan(
+pub fn reedanchor_plan(
     sheet: &[u8],
     row: &mut [u32],
     item: &mut u32,
@@ -58,8 +55,7 @@ pub extern "C" fn reedanchor_plan(
 }
 
 // The place judgement.
-#[unsafe(no_mangle)]
-pub extern "C" fn reedanchor_place(
+pub fn reedanchor_place(
     sheet: &[u8],
     place: Place,
     flow: &mut [u32],
@@ -76,8 +72,7 @@ pub extern "C" fn reedanchor_place(
 }
 
 // The flow check.
-#[unsafe(no_mangle)]
-pub extern "C" fn reedanchor_check_flow(
+pub fn reedanchor_check_flow(
     sheet: &[u8],
     place: Place,
     flow: &[u32],
@@ -91,8 +86,7 @@ pub extern "C" fn reedanchor_check_flow(
 }
 
 // The listing.
-#[unsafe(no_mangle)]
-pub extern "C" fn reedanchor_listing(sheet: &[u8], text: &mut [u8], written: &mut usize) -> u32
+pub fn reedanchor_listing(sheet: &[u8], text: &mut [u8], written: &mut usize) -> u32
     ensures listing_told { ListingTold (list_says sheet.now text.old) result written.new }
     ensures text_value { text.new ≡ row_after sheet.now text.old }
 {
@@ -101,8 +95,7 @@ pub extern "C" fn reedanchor_listing(sheet: &[u8], text: &mut [u8], written: &mu
 }
 
 // The mending call.
-#[unsafe(no_mangle)]
-pub extern "C" fn reedanchor_mend(
+pub fn reedanchor_mend(
     sheet: &[u8],
     clean: &mut [u8],
     reasons: &mut [u8],
