@@ -25,10 +25,18 @@ pub returns-then-wanted : goal.returns-then-wanted
 returns-then-wanted c =
     let cycle : ltb c.sort_events-sorted.result c.args.events ≡ has_cycle (plan_by c.args.events c.args.pairs c.args.from.now c.args.to.now) =
     let given = c.requires.plan_in_rows in left_out _ _ _ _ c.sort_events-sorted.ensures.round given.few given.named in
-    let none = le-ltb c.sort_events-sorted.result c.args.events (omega (arith, c.if-sorted-events.false)) in record { value = sym none ∙ cycle; predecessors = λ e t. c.close.ensures }
+    let none = le-ltb c.sort_events-sorted.result c.args.events (omega (arith, c.if-sorted-events.false)) in
+    record {
+      value = sym none ∙ cycle;
+      predecessors = λ e t. c.close.ensures;
+    }
 
 pub returns-else-wanted : goal.returns-else-wanted
 returns-else-wanted c =
     let cycle : ltb c.sort_events-sorted.result c.args.events ≡ has_cycle (plan_by c.args.events c.args.pairs c.args.from.now c.args.to.now) =
     let given = c.requires.plan_in_rows in left_out _ _ _ _ c.sort_events-sorted.ensures.round given.few given.named in
-    let none = le-ltb c.sort_events-sorted.result c.args.events (omega (arith, c.if-sorted-events.false)) in record { value = sym none ∙ cycle; predecessors = λ e t. absurd (rw c.if-wanted.false at t) }
+    let none = le-ltb c.sort_events-sorted.result c.args.events (omega (arith, c.if-sorted-events.false)) in
+    record {
+      value = sym none ∙ cycle;
+      predecessors = λ e t. absurd (rw c.if-wanted.false at t);
+    }

@@ -30,7 +30,11 @@ returns-then-is_marked c =
     let repeats : marked c.loop-i.succ c.earlier-a.result.0 c.later-b.result.0 ≡ repeat_at c.args.s.now c.loop-i.i =
     repeat_marked _ _ _ _ _ c.loop-i.invariant.2 _ _ c.earlier-a.ensures c.later-b.ensures within.1 in
     let found = first_found _ _ _ _ c.requires.laid_by.1.pairs c.loop-i-test.true c.loop-i.invariant.1 (search (told, repeats)) in
-    let is = c.item_fault.ensures in record { value = as_told 10 _ is (omega arith) refl (ap (tell 10) (sym found)); pairs_held = λ e. absurd (omega (arith, ap (λ (f : Fault). f.number) is)) }
+    let is = c.item_fault.ensures in
+    record {
+      value = as_told 10 _ is (omega arith) refl (ap (tell 10) (sym found));
+      pairs_held = λ e. absurd (omega (arith, ap (λ (f : Fault). f.number) is));
+    }
 
 pub mark-requires : goal.mark-requires
 mark-requires c =
