@@ -1,0 +1,26 @@
+-- `place::place_counts` meets its contract: settled with nothing for what is enough, a place tells the least opening count, which the limits
+-- of a sheet bound.
+use Rattle.std.proofs.Common.{◌<◌, arith, ◌∙◌, w32}
+use Rattle.std.proofs.Math.Facts.{to_z-of_z}
+use Rattle.sheet.specs.Table.{places_of}
+use Rattle.place.specs.Bounds.{most_least}
+use Rattle.place.specs.Judged.{judged, least_is, spare_is}
+use Rattle.place.proofs.place_counts.Goals as goal
+
+pub less-spare-requires : goal.less-spare-requires
+less-spare-requires c =
+    let s = c.args.s.now in
+    let place : c.args.p.0 < places_of s = omega (arith, c.requires.layout_of.places) in
+    let least = least_is _ _ _ _ _ _ _ _ _ c.settle_place-least.ensures (omega arith) in
+    let most = most_least _ c.requires.faultless c.args.p.0 place in
+    let opens = c.requires.faultless.openings c.args.p.0 place in
+    (omega (arith, c.opening-opens.ensures, opens), omega (arith, least, most))
+
+pub returns : goal.returns
+returns c =
+    let opens = c.opening-opens.ensures in
+    let is = c.settle_place-least.ensures in
+    let least = least_is _ _ _ _ _ _ _ _ _ is (omega arith) in (
+      to_z-of_z {w = w32} (record { sfits = c.less-spare.type_inv }) ∙ spare_is _ _ c.opening-opens.result c.settle_place-least.result _ c.less-spare.ensures opens least,
+      judged _ _ _ _ _ _ _ _ _ is _ (omega arith) (omega (arith, opens, c.above-missing.ensures)),
+    )
