@@ -6,6 +6,7 @@ use Rattle.push.proofs.pull_by.Goals as goal
 pub returns-in_default : goal.returns-in_default
 returns-in_default c = search (moves, rules)
 
+-- the giver found is before w
 pub exchange-requires : goal.exchange-requires
 exchange-requires c =
     let t = c.in-At.ensures in

@@ -2,6 +2,7 @@
 use Rattle.std.proofs.Common.{rules}
 use Rattle.push.proofs.pull_once.Goals as goal
 
+-- v feeds the taker found
 pub pull_by-requires : goal.pull_by-requires
 pull_by-requires c =
     let t = c.in-At.ensures in
