@@ -1,0 +1,13 @@
+-- `last_line::put_event`: an event's text follows its mark, by `member_told`.
+use Rattle.std.proofs.Common.{arith, true, false, rules}
+use Rattle.text.specs.Words.{word}
+use Rattle.text.specs.Put.{put_none}
+use Rattle.search.specs.Row.{member_told}
+use Rattle.last_line.proofs.put_event.Goals as goal
+
+pub returns-then-is_marked : goal.returns-then-is_marked
+unfolding word
+returns-then-is_marked c = (rw (member_told _ _ true (omega arith) c.is_marked.ensures (search rules)) c.put_field.ensures.0, omega arith)
+
+pub returns : goal.returns
+returns c = (rw (member_told _ _ false (omega arith) c.is_marked.ensures (search rules)) (put_none _ _ (omega arith)), omega arith)
