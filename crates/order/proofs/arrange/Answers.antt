@@ -17,7 +17,7 @@ returns-then-sorted-events c =
 pub close-requires : goal.close-requires
 close-requires c =
     record {
-      sorted = all_sorted c.requires.plan_in_rows c.sort_events-sorted.ensures (omega (arith, c.if-sorted-events.false));
+      sorted = all_sorted c.requires.plan_in_rows c.sort_events-sorted.ensures (omega arith);
       within = c.requires.within;
     }
 
@@ -25,7 +25,7 @@ pub returns-then-wanted : goal.returns-then-wanted
 returns-then-wanted c =
     let cycle : ltb c.sort_events-sorted.result c.args.events ≡ has_cycle (plan_by c.args.events c.args.pairs c.args.from.now c.args.to.now) =
     let given = c.requires.plan_in_rows in left_out _ _ _ _ c.sort_events-sorted.ensures.round given.few given.named in
-    let none = le-ltb c.sort_events-sorted.result c.args.events (omega (arith, c.if-sorted-events.false)) in
+    let none = le-ltb c.sort_events-sorted.result c.args.events (omega arith) in
     record {
       value = sym none ∙ cycle;
       predecessors = λ e t. c.close.ensures;
@@ -35,7 +35,7 @@ pub returns-else-wanted : goal.returns-else-wanted
 returns-else-wanted c =
     let cycle : ltb c.sort_events-sorted.result c.args.events ≡ has_cycle (plan_by c.args.events c.args.pairs c.args.from.now c.args.to.now) =
     let given = c.requires.plan_in_rows in left_out _ _ _ _ c.sort_events-sorted.ensures.round given.few given.named in
-    let none = le-ltb c.sort_events-sorted.result c.args.events (omega (arith, c.if-sorted-events.false)) in
+    let none = le-ltb c.sort_events-sorted.result c.args.events (omega arith) in
     record {
       value = sym none ∙ cycle;
       predecessors = λ e t. absurd (rw c.if-wanted.false at t);
