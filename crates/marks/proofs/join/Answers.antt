@@ -1,4 +1,4 @@
-use Rattle.std.proofs.Common.{◌-◌, arith, refl, rules}
+use Rattle.std.proofs.Common.{arith, refl, rules}
 use Rattle.marks.proofs.Rows.{start, more, done}
 use Rattle.marks.proofs.join.Goals as goal
 

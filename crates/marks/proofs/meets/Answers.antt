@@ -1,4 +1,4 @@
-use Rattle.std.proofs.Common.{◌-◌, arith, refl, rules}
+use Rattle.std.proofs.Common.{arith, refl, rules}
 use Rattle.marks.proofs.Meeting.{start, more, done}
 use Rattle.marks.proofs.meets.Goals as goal
 
