@@ -1,4 +1,4 @@
-use Rattle.std.proofs.Common.{◌-◌, arith, refl}
+use Rattle.std.proofs.Common.{arith, refl}
 use Rattle.mark_count.proofs.Words.{few_bits, start, more, most, done}
 use Rattle.mark_count.proofs.count_marks.Goals as goal
 
