@@ -1,4 +1,4 @@
-use Rattle.std.proofs.Common.{◌-◌, arith, ◌≡◌, rules}
+use Rattle.std.proofs.Common.{arith, ◌≡◌, rules}
 use Rattle.finite.specs.Filled.{filled_none, filled_more}
 use Rattle.filling.proofs.write_shares.Goals as goal
 
