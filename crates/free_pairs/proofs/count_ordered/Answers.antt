@@ -1,4 +1,4 @@
-use Rattle.std.proofs.Common.{◌-◌, arith}
+use Rattle.std.proofs.Common.{arith}
 use Rattle.free_pairs.proofs.Ordered.{start, more, done}
 use Rattle.free_pairs.proofs.count_ordered.Goals as goal
 
