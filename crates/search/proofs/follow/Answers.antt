@@ -11,7 +11,9 @@ returns-in_default c = record { following = search rules; all_in = all_in c.in_d
 
 pub list-requires : goal.list-requires
 list-requires c =
+    -- u feeds x, which is not yet listed
     let fresh = c.in-At.ensures in
+    -- there is room for it
     let fits : c.loop-x.end < 256 = queued_room c.loop-x.invariant.longer.queued c.in-At.x fresh.below (unlisted fresh) in
     let below = fresh.below in
     search rules

@@ -12,6 +12,7 @@ loop-head-init c = search_start (search) (zeros_empty 8)
 
 pub overflow_add-head : goal.overflow_add-head
 overflow_add-head c =
+    -- the place at `head` is one of 256
     let place : c.loop-head.head < 256 =
     omega (arith, queued_le c.loop-head.invariant.queued) in
     omega (arith, place)

@@ -32,7 +32,10 @@ pub returns-in_default : goal.returns-in_default
 returns-in_default c = record { visiting = search rules; all_in = all_in c.in_default.ensures }
 
 pub meet-requires : goal.meet-requires
-meet-requires c = let fresh = c.in-At.ensures in fresh.below
+meet-requires c =
+    -- x is before the taker at `head` and not yet met
+    let fresh = c.in-At.ensures in
+    fresh.below
 
 pub follow-end-requires : goal.follow-end-requires
 follow-end-requires c =
