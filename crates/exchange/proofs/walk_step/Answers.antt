@@ -25,6 +25,7 @@ bounds-share-taker c = let p = c.in-At.ensures in omega arith
 
 pub draw_most-requires : goal.draw_most-requires
 draw_most-requires c =
+    -- the place found
     let p = c.in-At.ensures in
     record { holds = search rules; u_lt_n = (search, p.names); t = p.ahead }
 
@@ -42,6 +43,7 @@ returns-in_default-next c =
 pub exchange-requires : goal.exchange-requires
 exchange-requires c =
     let p = c.in-At.ensures in
+    -- the giver found
     let q = c.in-At-next.ensures in
     record { holds = search rules; u_lt_n = (search, p.names, q.names); t = (p.ahead, q.feeds) }
 
