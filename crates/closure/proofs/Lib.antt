@@ -1,3 +1,4 @@
 mod Carrying
 mod Along
 mod Order
+pub mod Turned

@@ -7,7 +7,7 @@ use Rattle.ids.specs.Limits.{most_events}
 use Rattle.finite.specs.Bounded.{any}
 use Rattle.plan.specs.Net.{Plan}
 use Rattle.plan.specs.Order.{Before, before, skeleton, Named}
-use Rattle.plan.specs.Closure.{says_before}
+use Rattle.plan.proofs.Closure.{says_before}
 use Rattle.marks.specs.Marks.{marked, meeting, none_marked, MarkAdded}
 use Rattle.closure.specs.Between.{meeting_between}
 use Rattle.closure.specs.Ordered.{is_pair}

@@ -1,33 +1,29 @@
 -- The counts that the calls return, and what they are: each is the missing count or the spare count of its place.
 use Rattle.std.specs.Prelude.{ℕ, ◌<◌, ◌≡◌, refl, ℤ, pos, neg_ℤ}
-use Rattle.std.proofs.Common.{arith, sym, subst, ◌∙◌}
+use Rattle.std.proofs.Common.{sym, ◌∙◌}
 use mathlib.Core.List.{List}
 use Rattle.std.proofs.Math.Option.{some}
 use Rattle.std.proofs.Math.Path.{ap}
 use Rattle.std.proofs.Math.ListN.{get_or}
-use Rattle.plan.specs.Prefix.{above0, missing}
-use Rattle.theory.specs.Spare.{missing_spare}
+use Rattle.plan.specs.Prefix.{above0}
 use Rattle.sheet.specs.Faults.{fault_of}
 use Rattle.sheet.specs.Table.{places_of, events_of}
 use Rattle.sheet.specs.declared.Fault.{Fault}
-use Rattle.sheet.specs.Items.{net_of, plan_of}
-use Rattle.calls.specs.Call.{place_fault, row_known, place_known}
+use Rattle.calls.specs.Call.{place_fault}
+use Rattle.calls.proofs.Call.{row_known, place_known}
 use Rattle.calls.specs.FlowRow.{flow_fault, flow_length}
-use Rattle.calls.specs.Overwritten.{overwritten, over_first, at_none}
 use Rattle.calls.specs.Said.{Said, answer, unless_refused, values_said, values_clear, said_answer, said_clear}
 use Rattle.ids.specs.declared.Place.{Place}
 use Rattle.place.specs.Place.{missing_at, spare_at}
 use Rattle.summary.specs.declared.Totals.{Totals}
 use Rattle.summary.specs.declared.Verdict.TheVariants.{Short}
-use Rattle.summary.specs.Laws.{VerdictSays, verdict_says}
 use Rattle.summary.specs.Summary.{VerdictOf, PlanValues, values_in, values_of}
 use Rattle.place_judgement.specs.declared.Judgement.{Judgement}
 use Rattle.place_judgement.specs.declared.Judgement.TheVariants.{Spare}
 use Rattle.place_judgement.specs.Judgement.{says, judge_fault, judgement_says}
 use Rattle.plan_judgement.specs.declared.Answer.TheVariants.{Judged}
 use Rattle.plan_judgement.specs.Judgement.{plan_fault, plan_values, plan_says, row_of, says as saysPlan}
-use Rattle.answers.specs.ForC.{PlanTold, PlaceTold, value_or}
-use Rattle.reedanchor.specs.Laws.{taken}
+use Rattle.answers.specs.ForC.{PlaceTold, value_or}
 
 -- A plan is taken if its sheet has no fault of its own.
 abbrev pub Taken : List ℕ → Type 0
@@ -79,23 +75,6 @@ module _ (s : List ℕ) where
         let flow = row_known (flow_fault s p given.flow) given.marks (events_of s) (values_clear fault (spare_at s p) z due) in
         (place_known s p (row_known (place_fault s p) given.flow (flow_length s) flow.0).0).1
 
-  row_is : (p : ℕ) (row : List ℕ) → (plan_fault s row).number ≡ 0 → p < places_of s → get_or (row_of s row) p 0 ≡ missing_at s p
-  unfolding plan_fault row_of
-  row_is p row clear place =
-      let long = (row_known (fault_of s) row (places_of s) clear).1 in
-      ap (λ (r : List ℕ). get_or r p 0) (sym (at_none (plan_fault s row).number (overwritten (missing_at s) (places_of s) row) row clear))
-      ∙ over_first (missing_at s) (places_of s) row p place (omega (arith, long))
-
-  verdict_is : (p : Place) (m : ℕ) (row : List ℕ) (totals : Totals) → saysPlan (Judged totals) ≡ plan_says s row → totals.verdict ≡ Short p m → missing_at s p.0 ≡ m
-  verdict_is p m row totals told short =
-      (subst (VerdictSays (missing_at s) (places_of s)) short (verdict_says (missing_at s) (places_of s) totals.verdict (totals_are s row totals told))).1
-
-  -- Each count is the missing count of the definition.
-  pub count_is : (p m : ℕ) → Returned s p m → m ≡ missing (net_of s) (plan_of s) p
-  count_is p m (by_place q z given) = ap (λ (y : ℤ). above0 (neg_ℤ y)) (spare_is q z given) ∙ sym (missing_spare (net_of s) (plan_of s) q)
-  count_is p m (by_row q row clear place) = row_is p row clear place
-  count_is p m (by_verdict q k row totals told short) = sym (verdict_is q k row totals told short)
-
 -- C gets the same counts: where the place judgement returns 0, the spare count behind the pointer is one that is given,
 pub spare_in_c : (s : List ℕ) (p : ℕ) (flow marks : List ℕ) (item : ℕ) (z : ℤ) → PlaceTold (judgement_says s p flow marks) 0 item z → SpareReturned s p z
 unfolding judgement_says
@@ -104,7 +83,3 @@ spare_in_c s p flow marks item z told =
     let due = said_answer (judge_fault s p flow marks) (spare_at s p) clear in
     let is : z ≡ spare_at s p = told.count ∙ ap (λ (said : Said ℤ). value_or (pos 0) (λ (y : ℤ). y) said.values) due in
     record { flow = flow; marks = marks; answer = Spare z; told = ap (λ (y : ℤ). answer y) is ∙ sym due; values = refl }
-
--- and where the plan judgement does, each place's number in the row is.
-pub count_in_c : (s row : List ℕ) (item total short first : ℕ) → PlanTold (plan_says s row) 0 item total short first → (p : ℕ) → p < places_of s → Returned s p (get_or (row_of s row) p 0)
-count_in_c s row item total short first told p place = by_row p row (taken s row item total short first told) place

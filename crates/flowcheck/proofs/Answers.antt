@@ -10,13 +10,16 @@ use Rattle.ids.specs.Limits.{most_flow}
 use Rattle.plan.specs.Flow.{valid}
 use Rattle.sheet.specs.Items.{net_of, plan_of}
 use Rattle.sheet.specs.Faults.{fault_of}
-use Rattle.sheet.specs.Faultless.{Faultless, faultless}
+use Rattle.sheet.specs.Faultless.{Faultless}
+use Rattle.sheet.proofs.Faultless.{faultless}
 use Rattle.layout.specs.Layout.{LayoutOf, WithinLimits}
 use Rattle.layout.specs.declared.Layout.{Layout}
 use Rattle.fault.specs.declared.Examined.{Examined}
-use Rattle.calls.specs.Call.{place_fault, place_known, row_known}
+use Rattle.calls.specs.Call.{place_fault}
+use Rattle.calls.proofs.Call.{place_known, row_known}
 use Rattle.calls.specs.FlowRow.{flow_length, flow_of, flow_fault}
-use Rattle.calls.specs.Refusal.{Next, FaultTold, sheet_told, place_link, row_link}
+use Rattle.calls.specs.Refusal.{Next, FaultTold, sheet_told}
+use Rattle.calls.proofs.Refusal.{place_link, row_link}
 use Rattle.calls.specs.Said.{answer, said_answer, told_refusal}
 use Rattle.sheet.specs.declared.Fault.{Fault}
 use Rattle.flowcheck.specs.declared.Checked.TheVariants.{Refused, Valid, Invalid}

@@ -8,12 +8,13 @@ use mathlib.Core.Path.{◌≡◌, sym, subst, ◌∙◌}
 use lib.Dec.{T, not_T, eqb, eqb→eq}
 use mir.Facts.{and_yes, yes_and}
 use Rattle.finite.specs.Count.{count, count_below, count_ext}
-use Rattle.finite.specs.Pairs.{neither, count_pairs, pairs_left, pairs_mono}
+use Rattle.finite.specs.Pairs.{neither, count_pairs}
+use Rattle.finite.proofs.Pairs.{pairs_left, pairs_mono}
 use Rattle.finite.specs.Sum.{sum_ext, sum_more, sum_start}
 use Rattle.ids.specs.Limits.{most_events}
 use Rattle.plan.specs.Net.{Plan}
 use Rattle.plan.specs.Order.{chain, before, independent, free_count}
-use Rattle.plan.specs.Closure.{before_test, says_before}
+use Rattle.plan.proofs.Closure.{before_test, says_before}
 use Rattle.marks.specs.Marks.{marked}
 use Rattle.mark_count.specs.MarkCount.{marks_of}
 use Rattle.free_pairs.specs.FreeRows.{OrderIn, SomeOrder, ordered_in}

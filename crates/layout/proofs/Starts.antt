@@ -10,7 +10,7 @@ use mathlib.Core.Path.{◌≡◌, refl, sym, ap, ap₂, ◌∙◌}
 use borrow.Author.Tests.{ltb-false, lt-ltb, le-ltb, ne_eqb, eq-eqb}
 use lib.Dec.{ltb}
 use Rattle.finite.specs.Bounded.{any}
-use Rattle.finite.specs.First.{first_found, first_done}
+use Rattle.finite.proofs.First.{first_found, first_done}
 use Rattle.finite.specs.Search.{search_more}
 use Rattle.sheet.specs.Table.{start, due}
 use Rattle.sheet.specs.Told.{fault_at, no_fault, tell, plain, or_else}

@@ -14,7 +14,8 @@ use Rattle.plan.specs.Net.{Net, Plan}
 use Rattle.plan.specs.Prefix.{least_opening, missing, smallest}
 use Rattle.theory.specs.Skeleton.{before_earlier}
 use Rattle.theory.specs.Missing.{missing_opening}
-use Rattle.theory.specs.Tokenflow.{Tokenflow, Settled, least_within, settled_least, settled_smallest}
+use Rattle.theory.specs.Tokenflow.{Tokenflow, Settled, least_within, settled_least}
+use Rattle.theory.proofs.Tokenflow.{settled_smallest}
 use Rattle.tokenflow.specs.Rows.{fed_by, Rows, rows}
 use Rattle.tokenflow.specs.Flowing.{Flowing, Kept, given_in, taken_in, lacking}
 use Rattle.drawing.specs.Moves.{Moved}

@@ -5,7 +5,8 @@ use Rattle.plan.specs.Net.{Net, Plan}
 use Rattle.sheet.specs.Faults.{fault_of}
 use Rattle.sheet.specs.declared.Fault.{Fault}
 use Rattle.sheet.specs.Items.{net_of, plan_of}
-use Rattle.sheet.specs.Enough.{enough_bytes, enough, long_faulty, by_length, fault_enough}
+use Rattle.sheet.specs.Enough.{enough_bytes, enough}
+use Rattle.sheet.proofs.Enough.{long_faulty, by_length, fault_enough}
 use Rattle.lines.specs.Listing.{text_of, listing_of}
 
 -- a faulty sheet's text tells its fault alone

@@ -8,13 +8,15 @@ use mathlib.Core.Path.{◌≡◌, sym, ap, ◌∙◌}
 use mathlib.Core.Logic.{◌↔◌}
 use lib.Dec.{T}
 use Rattle.closure.specs.Carried.{Within, blank_within}
-use Rattle.closure.specs.Turned.{turned, turned_rows, pairs_within}
+use Rattle.closure.specs.Turned.{turned}
+use Rattle.closure.proofs.Turned.{turned_rows, pairs_within}
 use Rattle.closure.specs.PlanRows.{Says, PairRows, Predecessors}
 use Rattle.finite.specs.Bounded.{any, any_ext}
 use Rattle.ids.specs.Limits.{rows_words}
 use Rattle.plan.specs.Compare.{SamePairs}
 use Rattle.plan.specs.Net.{Plan}
-use Rattle.plan.specs.OnlyPairs.{before_same, pairs_before}
+use Rattle.plan.specs.OnlyPairs.{pairs_before}
+use Rattle.plan.proofs.OnlyPairs.{before_same}
 use Rattle.plan.specs.Order.{Before, before}
 use Rattle.sheet.specs.Table.{events_of, pairs_of}
 use Rattle.sheet.specs.Items.{plan_of}

@@ -1,7 +1,7 @@
 -- What the rows of a faultless sheet's order say: which event is before which, and which pairs are skeleton pairs.
 use Rattle.std.specs.Prelude.{ℕ, ◌<◌, not, List, ◌≡◌}
 use Rattle.plan.specs.Order.{Named, before, skeleton}
-use Rattle.plan.specs.Closure.{says_before}
+use Rattle.plan.proofs.Closure.{says_before}
 use Rattle.marks.specs.Marks.{marked, meeting}
 use Rattle.closure.specs.PlanRows.{skeleton_rows}
 use Rattle.sheet.specs.Table.{events_of, pairs_of}

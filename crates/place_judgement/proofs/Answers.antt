@@ -8,11 +8,14 @@ use lib.IntN.{ℤ}
 use lib.ListN.{length}
 use Rattle.sheet.specs.Table.{events_of}
 use Rattle.sheet.specs.Faults.{fault_of}
-use Rattle.sheet.specs.Faultless.{Faultless, faultless}
+use Rattle.sheet.specs.Faultless.{Faultless}
+use Rattle.sheet.proofs.Faultless.{faultless}
 use Rattle.layout.specs.Layout.{LayoutOf}
 use Rattle.fault.specs.declared.Examined.{Examined}
-use Rattle.calls.specs.Call.{place_fault, place_known, row_known}
-use Rattle.calls.specs.Refusal.{FaultTold, Next, place_link, row_link}
+use Rattle.calls.specs.Call.{place_fault}
+use Rattle.calls.proofs.Call.{place_known, row_known}
+use Rattle.calls.specs.Refusal.{FaultTold, Next}
+use Rattle.calls.proofs.Refusal.{place_link, row_link}
 use Rattle.calls.specs.FlowRow.{flow_length, flow_fault}
 use Rattle.calls.specs.Overwritten.{at_fault, at_none}
 use Rattle.calls.specs.Said.{answer, said_answer, told_refusal}

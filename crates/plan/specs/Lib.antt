@@ -1,6 +1,5 @@
 pub mod Net
 pub mod Order
-pub mod Closure
 pub mod Prefix
 pub mod Cut
 pub mod Flow

@@ -1,11 +1,11 @@
 -- A plan with some of its pairs only, in their order; and that "before" depends on the set of pairs alone.
 use Rattle.std.specs.Prelude.{ℕ, ◌<◌, Bool, ◌↔◌, ◌≡◌, T, length, get_or}
 use Rattle.std.proofs.Common.{arith, sym, ap, subst₂, ◌∙◌}
-use Rattle.finite.specs.Chosen.{chosen, chosen_in, chosen_at, chosen_count, chosen_all}
+use Rattle.finite.specs.Chosen.{chosen}
+use Rattle.finite.proofs.Chosen.{chosen_in, chosen_at, chosen_count, chosen_all}
 use Rattle.plan.specs.Net.{Plan}
-use Rattle.plan.specs.Order.{Before, pair, chain, before}
+use Rattle.plan.specs.Order.{Before, pair, chain}
 use Rattle.plan.specs.Compare.{PairsAmong, SamePairs}
-use Rattle.plan.specs.Closure.{before_test, says_before}
 
 -- the number in P of the pair i of those that pass
 abbrev pub chosen_pair : Plan → (ℕ → Bool) → ℕ → ℕ
@@ -27,11 +27,6 @@ module _ (P Q : Plan) where
   pub before_among : PairsAmong P Q → {u v : ℕ} → Before P u v → Before Q u v
   before_among among (pair i l) = let j = among i l in subst₂ (Before Q) (sym j.2) (sym j.3) (pair j.0 j.1)
   before_among among (chain b c) = chain (before_among among b) (before_among among c)
-
-  -- So is the test of it, and the same pairs have the same order.
-  pub before_same : ((u v : ℕ) → Before P u v ↔ Before Q u v) → (u v : ℕ) → before P u v ≡ before Q u v
-  before_same order u v =
-      says_before Q (before P u v) u v (λ t. (order u v).0 ((before_test P u v).0 t), λ b. (before_test P u v).1 ((order u v).1 b))
 
   pub pairs_before : SamePairs P Q → (u v : ℕ) → Before P u v ↔ Before Q u v
   pairs_before same u v = (before_among (λ i l. (i, omega (arith, same.pairs), same.earlier i l, same.later i l)), back)

@@ -8,11 +8,13 @@ use lib.ListN.{length}
 use Rattle.finite.specs.Filled.{Filled}
 use Rattle.sheet.specs.Table.{places_of}
 use Rattle.sheet.specs.Faults.{fault_of}
-use Rattle.sheet.specs.Faultless.{Faultless, faultless}
+use Rattle.sheet.specs.Faultless.{Faultless}
+use Rattle.sheet.proofs.Faultless.{faultless}
 use Rattle.layout.specs.Layout.{LayoutOf}
 use Rattle.fault.specs.declared.Examined.{Examined}
-use Rattle.calls.specs.Call.{row_known}
-use Rattle.calls.specs.Refusal.{FaultTold, Next, row_link}
+use Rattle.calls.proofs.Call.{row_known}
+use Rattle.calls.specs.Refusal.{FaultTold, Next}
+use Rattle.calls.proofs.Refusal.{row_link}
 use Rattle.calls.specs.Overwritten.{overwritten, filled_is, at_fault, at_none}
 use Rattle.place.specs.Place.{missing_at}
 use Rattle.calls.specs.Said.{answer, said_answer, told_refusal}

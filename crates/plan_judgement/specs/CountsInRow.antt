@@ -6,7 +6,7 @@ use Rattle.place.specs.Place.{missing_at}
 use Rattle.place.specs.Bounds.{most_missing_lem}
 use Rattle.sheet.specs.Faultless.{Faultless}
 use Rattle.sheet.specs.Table.{places_of}
-use Rattle.summary.specs.Laws.{values_agree}
+use Rattle.summary.proofs.Laws.{values_agree}
 use Rattle.summary.specs.Summary.{values_of, count_at, MissingCounts}
 
 module _ (s : List ℕ) (known : Faultless s) (n : ℕ) (is : n ≡ places_of s) (old new : List ℕ) (counted : Filled (missing_at s) n old new) where

@@ -8,7 +8,7 @@ use Rattle.place.specs.Place.{missing_at}
 use Rattle.sheet.specs.Faults.{fault_of}
 use Rattle.sheet.specs.Table.{places_of}
 use Rattle.sheet.specs.declared.Fault.{Fault}
-use Rattle.summary.specs.Laws.{values_once}
+use Rattle.summary.proofs.Laws.{values_once}
 use Rattle.summary.specs.Summary.{PlanValues, values_in, values_of}
 use Rattle.plan_judgement.specs.declared.Answer.{Answer}
 use Rattle.plan_judgement.specs.declared.Answer.TheVariants.{Refused, Judged}

@@ -7,7 +7,7 @@ use Rattle.plan.specs.Prefix.{runs_at, runs}
 use Rattle.place.specs.Place.{missing_at}
 use Rattle.sheet.specs.Items.{net_of, plan_of}
 use Rattle.sheet.specs.Table.{places_of}
-use Rattle.summary.specs.Laws.{runs_number}
+use Rattle.summary.proofs.Laws.{runs_number}
 use Rattle.summary.specs.Summary.{values_of}
 use Rattle.plan_judgement.specs.Judgement.{plan_values}
 

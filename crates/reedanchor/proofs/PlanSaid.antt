@@ -10,13 +10,13 @@ use lib.ListN.{length}
 use Rattle.ids.specs.Limits.{most_places}
 use Rattle.sheet.specs.Table.{places_of}
 use Rattle.sheet.specs.Faults.{fault_of}
-use Rattle.sheet.specs.Faultless.{faultless}
-use Rattle.calls.specs.Call.{lower_first, long_row, row_known}
+use Rattle.sheet.proofs.Faultless.{faultless}
+use Rattle.calls.proofs.Call.{lower_first, long_row, row_known}
 use Rattle.calls.specs.Said.{said_answer, said_refusal}
 use Rattle.sheet.specs.declared.Fault.{Fault}
 use Rattle.plan_judgement.specs.Judgement.{plan_fault, plan_values, plan_says}
 use Rattle.place.specs.Place.{missing_at}
-use Rattle.summary.specs.Laws.{first_fits}
+use Rattle.summary.proofs.Laws.{first_fits}
 use Rattle.summary.specs.Summary.{values_of}
 use Rattle.answers.specs.ForC.{first_said}
 use Rattle.till.specs.Till.{number_said, till_answer}

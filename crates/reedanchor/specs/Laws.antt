@@ -9,16 +9,18 @@ use Rattle.place.specs.Place.{missing_at}
 use Rattle.sheet.specs.Table.{places_of}
 use Rattle.sheet.specs.Items.{net_of, plan_of}
 use Rattle.sheet.specs.Faults.{fault_of}
-use Rattle.sheet.specs.Faultless.{faultless}
-use Rattle.sheet.specs.Located.{fault_most, fault_not_13}
+use Rattle.sheet.proofs.Faultless.{faultless}
+use Rattle.sheet.proofs.Located.{fault_most, fault_not_13}
 use Rattle.calls.specs.Said.{Said, answer, said_answer, said_refusal, said_clear}
 use Rattle.summary.specs.Summary.{PlanValues, short_places, first_short, short_number, first_place, values_of}
-use Rattle.summary.specs.Laws.{FirstIn, verdict_fits, short_number_lem, not_13, none_short, first_told, runs_number}
+use Rattle.summary.specs.Laws.{FirstIn, none_short}
+use Rattle.summary.proofs.Laws.{verdict_fits, short_number_lem, not_13, first_told, runs_number}
 use Rattle.plan_judgement.specs.Judgement.{plan_fault, plan_values, plan_says}
 use Rattle.plan_judgement.specs.Laws.{runs_told}
 use Rattle.kept_pairs.specs.Clean.{clean_of}
 use Rattle.mending.specs.Mended.{mend_fault, mend_says, clean_after}
-use Rattle.mending.specs.Theorems.{Mends, mended}
+use Rattle.mending.specs.Theorems.{Mends}
+use Rattle.mending.proofs.Theorems.{mended}
 use Rattle.answers.specs.ForC.{PlanTold, MendTold, first_said, value_or}
 use Rattle.till.specs.Till.{number_said, till_answer, answers_below}
 

@@ -3,7 +3,8 @@ use Rattle.std.specs.Prelude.{ℕ, zero, suc, ◌<◌, ◌≤◌, Bool, true, fa
 use Rattle.std.proofs.Common.{arith, sym, ap, ap₂, ◌∙◌}
 use Rattle.std.proofs.Math.Option.{Option, none, some, some-ne-none, none-ne-some, some-injective}
 use Rattle.finite.specs.Bounded.{any}
-use Rattle.finite.specs.First.{first, first_found, first_done}
+use Rattle.finite.specs.First.{first}
+use Rattle.finite.proofs.First.{first_found, first_done}
 use Rattle.sheet.specs.declared.Fault.{Fault}
 
 -- the fault with a number, at an item

@@ -3,3 +3,5 @@ mod Lowering
 mod Walks
 mod Seeding
 mod Lists
+pub mod Arranged
+pub mod Cycle

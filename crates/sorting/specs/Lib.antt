@@ -2,5 +2,4 @@ pub mod Waiting
 pub mod Sorted
 pub mod Steps
 pub mod Rows
-pub mod Cycle
 pub mod Arranged

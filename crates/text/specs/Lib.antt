@@ -1,5 +1,4 @@
 pub mod Words
 pub mod Put
 pub mod Putting
-pub mod Digits
 pub mod Signed

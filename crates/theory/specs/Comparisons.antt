@@ -1,16 +1,16 @@
 -- What the numbers at a place depend on: what each event takes and gives there, the order and the opening count. How they change with the last two.
-use Rattle.std.specs.Prelude.{ℕ, ◌-◌, ◌≤◌, ◌<◌, Bool, true, false, cond, ◌&&◌, ◌↔◌, ◌≡◌, T, ℤ, ◌+ℤ◌, ◌-ℤ◌}
-use Rattle.std.proofs.Common.{le_antisymm, arith, ⊎_elim, sym, ◌∙◌}
-use Rattle.std.proofs.Math.Path.{refl, ap, ap₂, subst, fun_ext}
+use Rattle.std.specs.Prelude.{ℕ, ◌-◌, ◌≤◌, ◌<◌, Bool, true, false, cond, ◌≡◌, T, ◌+ℤ◌, ◌-ℤ◌}
+use Rattle.std.proofs.Common.{arith, ⊎_elim, sym, ◌∙◌}
+use Rattle.std.proofs.Math.Path.{refl, ap, ap₂, subst}
 use Rattle.std.proofs.Math.Dec.{eqb, eqb_refl, ltb}
 use Rattle.std.proofs.Math.IntN.{pos}
 use Rattle.std.proofs.Math.Facts.{or_yes}
-use Rattle.finite.specs.Bounded.{same, yes_or_left, yes_or_right, ◌⇒◌}
-use Rattle.finite.specs.Subset.{Set, every, set_ext}
+use Rattle.finite.specs.Bounded.{same, yes_or_left, yes_or_right}
+use Rattle.finite.specs.Subset.{Set, set_ext}
 use Rattle.finite.specs.Sum.{on, over, on_yes, on_mono, sum_mono, sum_ext}
 use Rattle.plan.specs.Net.{Net, Plan, Labelled, taken_by, given_by}
 use Rattle.plan.specs.Order.{Before}
-use Rattle.plan.specs.Prefix.{prefix, front, tokens, lack, above0, missing, need, least_opening, smallest, full, end_count}
+use Rattle.plan.specs.Prefix.{prefix, front, tokens, lack, missing, need, least_opening, full, end_count}
 use Rattle.plan.specs.Compare.{with_more, opens_with, MoreOrder, SameAt, SameWeights, SamePlace}
 use Rattle.theory.specs.Least.{taken, given, least_covers, least_is_least}
 use Rattle.theory.specs.Missing.{missing_opening}
@@ -111,25 +111,11 @@ module _ (N : Net) (P : Plan) (p : ℕ) (M : Net) (Q : Plan) (q : ℕ) (s : Same
       (λ D w t.
       omega (arith, least_covers N P p D (record { below = λ v d. subst (λ (n : ℕ). v < n) (sym s.events) (w.below v d) }) (first_prefix order D t), first_takes order D, given_same D))
 
--- With the same order it is the same, whatever the opening counts are.
-pub least_same : (N : Net) (P : Plan) (p : ℕ) (M : Net) (Q : Plan) (q : ℕ) → SameWeights N P p M Q q → ((u v : ℕ) → Before P u v ↔ Before Q u v)
-    → least_opening N P p ≡ least_opening M Q q
-least_same N P p M Q q s order =
-    le_antisymm
-    (least_order M Q q N P p (turned N P p M Q q s) (λ u v. (order u v).1))
-    (least_order N P p M Q q s (λ u v. (order u v).0))
-
 -- More order never raises it, nor the missing count.
 module _ (N : Net) (P Q : Plan) (p : ℕ) (m : MoreOrder P Q) where
   pub weights_ordered : SameWeights N P p N Q p
   weights_ordered =
       record { events = m.events; takes = λ v l. ap (λ (t : ℕ). N.takes t p) (m.labels v l); gives = λ v l. ap (λ (t : ℕ). N.gives t p) (m.labels v l) }
-
-  pub least_ordered : least_opening N Q p ≤ least_opening N P p
-  least_ordered = least_order N P p N Q p weights_ordered m.order
-
-  pub missing_order : missing N Q p ≤ missing N P p
-  missing_order = omega (arith, missing_opening N P p, missing_opening N Q p, least_ordered)
 
 -- ---- the same weights and order
 
@@ -137,13 +123,7 @@ module _ (N : Net) (P : Plan) (p : ℕ) (M : Net) (Q : Plan) (q : ℕ) (s : Same
   back : SameWeights M Q q N P p
   back = turned N P p M Q q s.weights
 
-  pub least_alike : least_opening N P p ≡ least_opening M Q q
-  least_alike = least_same N P p M Q q s.weights s.order
-
-  pub missing_alike : missing N P p ≡ missing M Q q
-  missing_alike = omega (arith, missing_opening N P p, missing_opening M Q q, least_alike, s.opening)
-
-  prefix_alike : (D : Set) → prefix P D ≡ prefix Q D
+  pub prefix_alike : (D : Set) → prefix P D ≡ prefix Q D
   prefix_alike D =
       same
       (prefix P D)
@@ -169,13 +149,6 @@ module _ (N : Net) (P : Plan) (p : ℕ) (M : Net) (Q : Plan) (q : ℕ) (s : Same
   lack_alike D =
       ap₂ (λ x z. pos x -ℤ z) (ap (λ (F : Set). over P.events F (taken_by N P p)) (front_alike D) ∙ taken_same N P p M Q q s.weights (front Q D)) (tokens_alike D)
 
-  pub smallest_alike : smallest N P p ≡ smallest M Q q
-  unfolding smallest
-  smallest_alike = fun_ext (λ v. ap₂ every s.weights.events (fun_ext (counts v)))
-    where
-      counts : (v : ℕ) (D : Set) → ((prefix P D && eqb (above0 (lack N P p D)) (missing N P p)) ⇒ D v) ≡ ((prefix Q D && eqb (above0 (lack M Q q D)) (missing M Q q)) ⇒ D v)
-      counts v D = ap₂ (λ x y. (x && y) ⇒ D v) (prefix_alike D) (ap₂ (λ x y. eqb (above0 x) y) (lack_alike D) missing_alike)
-
   pub end_alike : end_count N P p ≡ end_count M Q q
   unfolding end_count
   end_alike = ap (λ (n : ℕ). tokens N P p (λ v. ltb v n)) s.weights.events ∙ tokens_alike (full Q)
@@ -189,6 +162,3 @@ module _ (N M : Net) (P : Plan) (p : ℕ) (lab : Labelled N P) (s : SameAt p N M
         order = λ u v. (λ b. b, λ b. b);
         opening = s.opening;
       }
-
-  pub missing_same : missing N P p ≡ missing M P p
-  missing_same = missing_alike N P p M P p place_same

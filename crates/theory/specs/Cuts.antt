@@ -14,7 +14,7 @@ use Rattle.finite.specs.Subset.{Set}
 use Rattle.finite.specs.Sum.{on, sum, over, on_yes, on_no, on_mono, sum_strict, sum_mono, sum_add, over_mono}
 use Rattle.plan.specs.Net.{Net, Plan, taken_by, given_by}
 use Rattle.plan.specs.Order.{Before, chain, before, Sound}
-use Rattle.plan.specs.Closure.{before_test}
+use Rattle.plan.proofs.Closure.{before_test}
 use Rattle.plan.specs.Prefix.{IsPrefix, front, tokens}
 use Rattle.plan.specs.Cut.{IsCoset, IsCut, preset, Covered, Executable}
 use Rattle.theory.specs.Least.{taken, taken_split}

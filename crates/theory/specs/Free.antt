@@ -5,11 +5,12 @@ use Rattle.std.proofs.Math.Logic.{inl, inr, ⊎_elim}
 use Rattle.std.proofs.Math.Dec.{nltb→le}
 use Rattle.finite.specs.Bounded.{below_suc, decide, same}
 use Rattle.finite.specs.Count.{count}
-use Rattle.finite.specs.Pairs.{count_pairs, pairs_mono, pairs_none, none_pairs, pairs_all, pairs_twice}
+use Rattle.finite.specs.Pairs.{count_pairs}
+use Rattle.finite.proofs.Pairs.{pairs_mono, pairs_none, none_pairs, pairs_all, pairs_twice}
 use Rattle.finite.specs.Sum.{sum}
 use Rattle.plan.specs.Net.{Plan}
 use Rattle.plan.specs.Order.{Before, pair, chain, before, Independent, independent, free_count, IsChain}
-use Rattle.plan.specs.Closure.{before_test, independent_test}
+use Rattle.plan.proofs.Closure.{before_test, independent_test}
 use Rattle.plan.specs.Compare.{ImpliedPairs}
 use Rattle.plan.specs.OnlyPairs.{before_among}
 

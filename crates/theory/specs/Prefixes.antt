@@ -7,7 +7,7 @@ use Rattle.finite.specs.Bounded.{any_yes, yes_any, all, all_yes, yes_all, ◌⇒
 use Rattle.finite.specs.Subset.{Set, Within, empty}
 use Rattle.plan.specs.Net.{Plan}
 use Rattle.plan.specs.Order.{Before, pair, chain, before, Sound, skeleton}
-use Rattle.plan.specs.Closure.{before_test}
+use Rattle.plan.proofs.Closure.{before_test}
 use Rattle.plan.specs.Prefix.{IsPrefix, prefix, front, full}
 use Rattle.plan.specs.Cut.{preset}
 use Rattle.theory.specs.Skeleton.{before_later, before_earlier, last_link, between, earlier_end}

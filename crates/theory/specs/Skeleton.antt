@@ -10,7 +10,7 @@ use Rattle.finite.specs.Bounded.{any, any_yes, decide}
 use Rattle.finite.specs.Sum.{on, sum, sum_strict, on_mono, on_yes, on_no}
 use Rattle.plan.specs.Net.{Plan}
 use Rattle.plan.specs.Order.{Before, pair, chain, before, Sound, skeleton}
-use Rattle.plan.specs.Closure.{before_test}
+use Rattle.plan.proofs.Closure.{before_test}
 
 module _ (P : Plan) where
   -- from u to w, and on to x if that is another event

@@ -1,15 +1,15 @@
 -- The spare count: what it says of the least opening count and of the missing count, how it changes with the opening count and the order, and
 -- what it lies between.
-use Rattle.std.specs.Prelude.{ℕ, ◌+◌, ◌≤◌, ◌≡◌, eqb, ℤ, pos, neg_ℤ, ◌+ℤ◌, ◌-ℤ◌, ◌≤ℤ◌}
+use Rattle.std.specs.Prelude.{ℕ, ◌+◌, ◌≤◌, ◌≡◌, eqb, pos, neg_ℤ, ◌+ℤ◌, ◌-ℤ◌, ◌≤ℤ◌}
 use Rattle.std.proofs.Common.{add-zero, arith, ap, subst₂, ◌∙◌}
 use Rattle.std.proofs.Math.Path.{sym, ap₂}
 use Rattle.std.proofs.Math.Dec.{eqb_refl}
 use Rattle.std.proofs.Math.IntN.{sub_ℕ, +ℤ_idl}
 use Rattle.finite.specs.Sum.{on_yes}
-use Rattle.plan.specs.Net.{Net, Plan, Labelled}
+use Rattle.plan.specs.Net.{Net, Plan}
 use Rattle.plan.specs.Prefix.{above0, missing, least_opening, spare}
-use Rattle.plan.specs.Compare.{with_more, MoreOrder, SameAt, SamePlace}
-use Rattle.theory.specs.Comparisons.{least_more, least_ordered, least_alike, place_same}
+use Rattle.plan.specs.Compare.{with_more}
+use Rattle.theory.specs.Comparisons.{least_more}
 use Rattle.theory.specs.Missing.{missing_opening}
 use Rattle.theory.specs.Signs.{minus, minus_turned, minus_minus, minus_below, passed_minus, above0_minus}
 
@@ -57,21 +57,3 @@ module _ (N : Net) (P : Plan) (p : ℕ) where
       (sym (minus 0 m) ∙ +ℤ_idl (neg_ℤ (pos m)))
       (sym spare_minus)
       (minus_below 0 m (N.opening p) (least_opening N P p) (omega (arith, h)))
-
--- More order never lowers it.
-pub spare_order : (N : Net) (P Q : Plan) (p : ℕ) → MoreOrder P Q → spare N P p ≤ℤ spare N Q p
-spare_order N P Q p m =
-    let o = N.opening p in
-    subst₂
-    ◌≤ℤ◌
-    (sym (spare_minus N P p))
-    (sym (spare_minus N Q p))
-    (minus_below o (least_opening N P p) o (least_opening N Q p) (omega (arith, least_ordered N P Q p m)))
-
--- It is the same at a place with the same weights, order and opening count; other places' numbers don't matter.
-pub spare_alike : (N : Net) (P : Plan) (p : ℕ) (M : Net) (Q : Plan) (q : ℕ) → SamePlace N P p M Q q → spare N P p ≡ spare M Q q
-unfolding spare
-spare_alike N P p M Q q s = ap₂ (λ (o l : ℕ). pos o -ℤ pos l) s.opening (least_alike N P p M Q q s)
-
-pub spare_same : (N M : Net) (P : Plan) (p : ℕ) → Labelled N P → SameAt p N M → spare N P p ≡ spare M P p
-spare_same N M P p lab s = spare_alike N P p M P p (place_same N M P p lab s)

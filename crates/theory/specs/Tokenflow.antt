@@ -9,17 +9,16 @@ use Rattle.std.proofs.Math.Logic.{⊎_elim}
 use Rattle.std.proofs.Math.Path.{ap}
 use Rattle.std.proofs.Math.Facts.{or_yes}
 use Rattle.finite.specs.Bounded.{decide, yes_or_left, yes_or_right}
-use Rattle.finite.specs.Subset.{Set, set_ext}
+use Rattle.finite.specs.Subset.{Set}
 use Rattle.finite.specs.Sum.{on, sum, over, on_yes, on_no, on_le, on_sum, sum_ext, sum_mono, sum_zero, sum_swap, sum_tight, over_add, over_mono, over_all}
 use Rattle.plan.specs.Net.{Net, Plan, taken_by, given_by}
 use Rattle.plan.specs.Order.{Before, chain, Sound}
-use Rattle.plan.specs.Prefix.{IsPrefix, front, missing, least_opening, smallest, lack, above0}
+use Rattle.plan.specs.Prefix.{IsPrefix, front, missing, least_opening}
 use Rattle.plan.specs.Cut.{preset}
 use Rattle.theory.specs.Least.{taken, given, least_bounds, least_attained}
-use Rattle.theory.specs.Missing.{supply, missing_opening, lack_above0}
+use Rattle.theory.specs.Missing.{missing_opening}
 use Rattle.theory.specs.Prefixes.{reached, front_yes, yes_front, preset_yes, yes_preset}
 use Rattle.theory.specs.Skeleton.{before_earlier}
-use Rattle.theory.specs.Smallest.{positive, smallest_is}
 
 -- y u w tokens that u gives and w takes, only where u is before w. What u gives to nobody is free, and what w gets from nobody is
 -- its share of the opening count.
@@ -116,7 +115,7 @@ module _ (N : Net) (P : Plan) (p : ℕ) (S : Sound P) (y : ℕ → ℕ → ℕ) 
           comes_from
           (omega (arith, full, taken_into (reached P D), from_given D, over_all P.events (reached P D) share))
 
-      tight_closed : Closed P y share (reached P D) D
+      pub tight_closed : Closed P y share (reached P D) D
       tight_closed =
           record {
             roots = λ w l h. in-it (reached P D w) (share w) h (shares_in w l);
@@ -157,7 +156,7 @@ module _ (N : Net) (P : Plan) (p : ℕ) (S : Sound P) (y : ℕ → ℕ → ℕ) 
           onward = λ u w lu lw t h. let z = preset_yes P S U u t in s.closed.onward u w lu lw (s.closed.back u z.0 (s.takers z.0 z.1) z.1 z.2) h;
         })
 
-    seen_prefix : IsPrefix P D
+    pub seen_prefix : IsPrefix P D
     seen_prefix =
         record {
           events = λ u t. (s.givers u t).0;
@@ -196,7 +195,7 @@ module _ (N : Net) (P : Plan) (p : ℕ) (S : Sound P) (y : ℕ → ℕ → ℕ) 
             (eq-zero-or-pos (y u w))
 
     -- the done set seen asks for all the shares
-    seen_full : sum P.events share + given N P p D ≤ taken N P p D
+    pub seen_full : sum P.events share + given N P p D ≤ taken N P p D
     unfolding taken over into
     seen_full =
         omega (
@@ -210,19 +209,3 @@ module _ (N : Net) (P : Plan) (p : ℕ) (S : Sound P) (y : ℕ → ℕ → ℕ) 
     -- The shares come to the least opening count, and the missing count is what they come to above the opening count.
     pub settled_least : least_opening N P p ≡ sum P.events share
     settled_least = omega (arith, least_within, least_bounds N P p S D seen_prefix, seen_full)
-
-    pub settled_missing : missing N P p ≡ sum P.events share - N.opening p
-    settled_missing = omega (arith, settled_least, missing_opening N P p)
-
-    -- Where something is missing, the givers seen are the smallest done set of the greatest lack.
-    pub settled_smallest : 0 < missing N P p → smallest N P p ≡ D
-    unfolding supply
-    settled_smallest short =
-        let z = smallest_is N P p S short in
-        let m : Set = smallest N P p in
-        let lacks : above0 (lack N P p D) ≡ missing N P p = omega (arith, lack_above0 N P p D, least_bounds N P p S D seen_prefix, seen_full, settled_least, settled_missing) in
-        set_ext
-        m
-        D
-        (λ v t. z.least D seen_prefix (positive (lack N P p D) (missing N P p) lacks short) v t)
-        (λ v t. s.generated (reached P m) m (tight_closed m z.prefixed (omega (arith, settled_missing, lack_above0 N P p m, ap above0 z.lacks))) v t)

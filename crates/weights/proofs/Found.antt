@@ -8,7 +8,7 @@ use mathlib.Core.Option.{Option, none}
 use mathlib.Core.Path.{◌≡◌, refl, ap, ◌∙◌}
 use lib.Dec.{ltb}
 use Rattle.finite.specs.Bounded.{any}
-use Rattle.finite.specs.First.{first_done}
+use Rattle.finite.proofs.First.{first_done}
 use Rattle.sheet.specs.Chain.{told}
 use Rattle.sheet.specs.Faults.{over_opening, over_weight_at, over_weight_in, over_weight, no_transition, number_faults, first_fault}
 use Rattle.sheet.specs.Items.{takes_at, gives_at}

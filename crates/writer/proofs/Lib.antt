@@ -1,2 +1,5 @@
 mod Putting
 mod Copying
+pub mod Lengths
+pub mod ReadBack
+pub mod WriteBack

@@ -1,5 +1,5 @@
 -- How many bytes each part of a sheet has.
-use Rattle.std.specs.Prelude.{ℕ, ◌+◌, ◌*◌, ◌++◌, ◌≡◌, length}
+use Rattle.std.specs.Prelude.{ℕ, ◌*◌, ◌++◌, ◌≡◌, length}
 use native.Mathlib.Omega.{arith}
 use Rattle.std.proofs.Math.ListN.{length-append}
 use Rattle.finite.specs.Each.{each, each_length}
@@ -8,7 +8,7 @@ use Rattle.layout.specs.Layout.{places_at, transitions_at, events_at, pairs_at}
 use Rattle.numbers.specs.Number.{bytes, bytes_length}
 use Rattle.plan.specs.Net.{Net, Plan}
 use Rattle.sheet.specs.Table.{table_length}
-use Rattle.writer.specs.Written.{entry, table, opening_bytes, transition_bytes, weight_bytes, label_bytes, pair_bytes, order_bytes, body_bytes, bytes_of, layout_of}
+use Rattle.writer.specs.Written.{entry, table, opening_bytes, label_bytes, pair_bytes, order_bytes}
 
 pub entry_length : (start count : ℕ) → length (entry start count) ≡ 8
 unfolding entry
@@ -38,7 +38,7 @@ module _ (l : Layout) where
       )
 
 -- items of the same length, one number each
-numbers_length : (k n : ℕ) (f : ℕ → ℕ) → length (each n (λ i. bytes k (f i))) ≡ k * n
+pub numbers_length : (k n : ℕ) (f : ℕ → ℕ) → length (each n (λ i. bytes k (f i))) ≡ k * n
 numbers_length k n f = each_length k n (λ i. bytes k (f i)) (λ i l. bytes_length k (f i))
 
 pub pair_length : (a b : ℕ) → length (pair_bytes a b) ≡ 4
@@ -53,15 +53,6 @@ module _ (N : Net) where
   pub takes_length : (t : ℕ) → length (each N.places (λ p. bytes 2 (N.takes t p))) ≡ 2 * N.places
   takes_length t = numbers_length 2 N.places (N.takes t)
 
-  pub transition_length : (t : ℕ) → length (transition_bytes N t) ≡ 4 * N.places
-  unfolding transition_bytes
-  transition_length t =
-      simp length-append (omega (arith, takes_length t, numbers_length 2 N.places (N.gives t)))
-
-  pub weights_length : length (weight_bytes N) ≡ 4 * N.places * N.transitions
-  unfolding weight_bytes
-  weights_length = each_length (4 * N.places) N.transitions (transition_bytes N) (λ t l. transition_length t)
-
 module _ (P : Plan) where
   pub labels_length : length (label_bytes P) ≡ 2 * P.events
   unfolding label_bytes
@@ -70,18 +61,3 @@ module _ (P : Plan) where
   pub order_length : length (order_bytes P) ≡ 4 * P.pairs
   unfolding order_bytes
   order_length = each_length 4 P.pairs (λ i. pair_bytes (P.earlier i) (P.later i)) (λ i l. pair_length (P.earlier i) (P.later i))
-
-module _ (N : Net) (P : Plan) where
-  pub nets_length : length (opening_bytes N ++ weight_bytes N) ≡ 4 * N.places + 4 * N.places * N.transitions
-  nets_length = omega (arith, length-append (opening_bytes N) (weight_bytes N), openings_length N, weights_length N)
-
-  pub body_length : length (body_bytes N P) ≡ 4 * N.places + 4 * N.places * N.transitions + 2 * P.events
-  unfolding body_bytes
-  body_length = simp length-append (omega (arith, openings_length N, weights_length N, labels_length P))
-
-  pub front_length : length (table (layout_of N P) ++ body_bytes N P) ≡ pairs_at (layout_of N P)
-  front_length = omega (arith, length-append (table (layout_of N P)) (body_bytes N P), table_length_lem (layout_of N P), body_length)
-
-  pub sheet_length : length (bytes_of N P) ≡ pairs_at (layout_of N P) + 4 * P.pairs
-  unfolding bytes_of
-  sheet_length = omega (arith, length-append (table (layout_of N P) ++ body_bytes N P) (order_bytes P), front_length, order_length P)

@@ -1,6 +1,6 @@
 -- `calls::next` meets its contract: a lower fault is told, else k if it is found, else none.
 use Rattle.std.proofs.Common.{refl}
-use Rattle.calls.specs.Refusal.{next_lower, next_not, next_here}
+use Rattle.calls.proofs.Refusal.{next_lower, next_not, next_here}
 use Rattle.calls.proofs.next.Goals as goal
 
 pub returns-then-lower-ne0 : goal.returns-then-lower-ne0

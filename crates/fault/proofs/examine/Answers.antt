@@ -1,7 +1,7 @@
 -- The faults of the layout decide, or are absent: then the table is there, its layout is the sheet's, and the rest decide.
 use Rattle.std.proofs.Common.{◌≡◌, sym, ap, ◌∙◌}
 use Rattle.sheet.specs.Faults.{layout_faults, first_fault}
-use Rattle.sheet.specs.Faultless.{layout_decides, layout_laid, content_decides}
+use Rattle.sheet.proofs.Faultless.{layout_decides, layout_laid, content_decides}
 use Rattle.sheet.specs.declared.Fault.{Fault}
 use Rattle.layout.specs.Layout.{within}
 use Rattle.fault.proofs.examine.Goals as goal

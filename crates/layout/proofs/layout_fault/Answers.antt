@@ -2,7 +2,8 @@
 -- read once the table is there.
 use Rattle.std.proofs.Common.{arith, refl}
 use Rattle.sheet.specs.Chain.{told}
-use Rattle.sheet.specs.Laid.{whole, limited}
+use Rattle.sheet.specs.Laid.{whole}
+use Rattle.sheet.proofs.Laid.{limited}
 use Rattle.sheet.specs.Told.{as_told}
 use Rattle.layout.specs.Layout.{within}
 use Rattle.layout.proofs.Table.{fault_1, fault_2, fault_starts, fault_end}

@@ -1,7 +1,7 @@
 -- An event is left out of the queue exactly if there is a cycle; else the events are arranged, and rows are filled by that.
 use Rattle.std.proofs.Common.{arith, true≢false, ◌≡◌, refl, sym, ◌∙◌, lt-ltb, le-ltb, ltb}
-use Rattle.sorting.specs.Arranged.{all_sorted}
-use Rattle.sorting.specs.Cycle.{left_out}
+use Rattle.sorting.proofs.Arranged.{all_sorted}
+use Rattle.sorting.proofs.Cycle.{left_out}
 use Rattle.sorting.specs.Rows.{plan_by, has_cycle}
 use Rattle.order.proofs.arrange.Goals as goal
 

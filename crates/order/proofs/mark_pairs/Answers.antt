@@ -1,5 +1,5 @@
 use Rattle.std.proofs.Common.{◌<◌, arith, ◌≡◌, refl, sym, ap, ◌∙◌, rules}
-use Rattle.finite.specs.First.{first_found, first_done}
+use Rattle.finite.proofs.First.{first_found, first_done}
 use Rattle.finite.specs.Search.{search_start, search_more}
 use Rattle.ids.specs.Limits.{most_events, most_pairs}
 use Rattle.marks.specs.Marks.{marked}

@@ -1,6 +1,6 @@
 -- The repeats first: without one all pairs stand in rows. Then the cycles of the plan in the rows, which is the sheet's; turned, it has none either.
 use Rattle.std.proofs.Common.{arith, refl, sym, ap, ◌∙◌}
-use Rattle.closure.specs.Turned.{turned_cycle}
+use Rattle.closure.proofs.Turned.{turned_cycle}
 use Rattle.sheet.specs.Chain.{told}
 use Rattle.sheet.specs.Told.{as_told}
 use Rattle.sheet.specs.declared.Fault.{Fault}

@@ -1,6 +1,6 @@
 -- Pairs that all go one way have no cycle. Others are sorted.
 use Rattle.std.proofs.Common.{sym, ◌∙◌}
-use Rattle.rising.specs.Rising.{up_no_cycle, down_no_cycle}
+use Rattle.rising.proofs.Rising.{up_no_cycle, down_no_cycle}
 use Rattle.rising.proofs.has_cycle.Goals as goal
 
 pub returns-then-rises : goal.returns-then-rises

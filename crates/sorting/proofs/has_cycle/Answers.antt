@@ -1,6 +1,6 @@
 -- An event is left out of the queue exactly if there is a cycle.
 use Rattle.std.proofs.Common.{refl}
-use Rattle.sorting.specs.Cycle.{left_out}
+use Rattle.sorting.proofs.Cycle.{left_out}
 use Rattle.sorting.proofs.has_cycle.Goals as goal
 
 pub sort_events-sorted-requires : goal.sort_events-sorted-requires

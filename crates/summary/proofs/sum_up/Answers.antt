@@ -1,5 +1,5 @@
 -- `sum_up` rests on what its three calls say of the counts in the row: the total, the number of short places and the verdict.
-use Rattle.summary.specs.Laws.{place_told}
+use Rattle.summary.proofs.Laws.{place_told}
 use Rattle.summary.specs.Summary.{count_at, values_of}
 use Rattle.summary.proofs.sum_up.Goals as goal
 

@@ -1,5 +1,5 @@
 use Rattle.std.proofs.Common.{arith}
-use Rattle.text.specs.Digits.{last_digit, room, digit_put, last_put}
+use Rattle.text.proofs.Digits.{last_digit, room, digit_put, last_put}
 use Rattle.text.proofs.+put_number.Goals as goal
 
 pub bounds-row-at : goal.bounds-row-at

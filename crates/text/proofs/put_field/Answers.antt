@@ -1,7 +1,7 @@
 -- One text after another (`put_then`); a number of 32 bits has at most ten digits (`ten_digits`).
 use Rattle.std.proofs.Common.{arith}
 use Rattle.text.specs.Put.{put_then}
-use Rattle.text.specs.Digits.{ten_digits}
+use Rattle.text.proofs.Digits.{ten_digits}
 use Rattle.text.proofs.put_field.Goals as goal
 
 pub put_number-requires : goal.put_number-requires

@@ -1,7 +1,7 @@
 -- Below 0 it is the sign and the difference turned round, else the difference (`signed_below`, `signed_above`).
 use Rattle.std.proofs.Common.{◌-◌, arith}
 use Rattle.text.specs.Words.{word}
-use Rattle.text.specs.Digits.{ten_digits}
+use Rattle.text.proofs.Digits.{ten_digits}
 use Rattle.text.specs.Signed.{signed_below, signed_above}
 use Rattle.text.proofs.put_signed.Goals as goal
 

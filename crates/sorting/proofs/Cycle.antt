@@ -6,7 +6,7 @@ use Rattle.finite.specs.Bounded.{any, any_yes, yes_any, decide, same}
 use Rattle.finite.specs.Count.{count, count_full, count_insert, count_mono, count_none, count_room}
 use Rattle.finite.specs.Subset.{Set, insert}
 use Rattle.ids.specs.Limits.{most_events}
-use Rattle.plan.specs.Closure.{before_test}
+use Rattle.plan.proofs.Closure.{before_test}
 use Rattle.plan.specs.Net.{Plan}
 use Rattle.plan.specs.Order.{Before, pair, chain, before, Named}
 use Rattle.sorting.specs.Rows.{has_cycle}

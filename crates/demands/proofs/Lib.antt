@@ -1,0 +1,4 @@
+pub mod Demand2
+pub mod Demand3
+pub mod Returned
+pub mod Whole
