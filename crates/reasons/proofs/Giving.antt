@@ -12,14 +12,13 @@ use lib.Ieee.Bits.{is_false}
 use lib.ListN.{length, get_or, set, replicate}
 use mir.Facts.{eqb_no, not_T}
 use Rattle.finite.specs.Bounded.{decide}
-use Rattle.finite.specs.Chosen.{chosen}
-use Rattle.finite.proofs.Chosen.{chosen_length, chosen_more, chosen_same, chosen_next, chosen_old}
+use Rattle.finite.specs.Chosen.{chosen, chosen_length, chosen_more, chosen_same, chosen_next, chosen_old}
 use Rattle.finite.specs.Filled.{Filled, filled_none, filled_more}
 use Rattle.finite.specs.Queue.{Stored, below_next, stored_below}
 use Rattle.sheet.specs.Faults.{repeat_at}
 use Rattle.sheet.specs.Items.{earlier_at, later_at}
 use Rattle.reasons.specs.KeptRows.{KeptRows, HoldsKept, MarkedIfKept, PutIfKept}
-use Rattle.reasons.proofs.Laws.{kept_names, names_kept, kept_0}
+use Rattle.reasons.specs.Laws.{kept_names, names_kept, kept_0}
 use Rattle.reasons.specs.Reasons.{reason_at, kept, names_two}
 use Rattle.reasons.proofs.Rows.{rows_start, rows_kept, rows_dropped}
 

@@ -4,6 +4,7 @@ use Rattle.finite.specs.Queue.{stored}
 use Rattle.ids.specs.Limits.{most_events}
 use Rattle.reasons.proofs.keep.Goals as goal
 
+-- `ends`: its ends are events
 pub mark-requires : goal.mark-requires
 mark-requires c = let ends : (c.args.a.0 < most_events) × (c.args.b.0 < most_events) = c.requires.a_lt_most_events (λ one. omega arith) in omega arith
 
