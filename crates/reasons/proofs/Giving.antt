@@ -12,7 +12,8 @@ use lib.Ieee.Bits.{is_false}
 use lib.ListN.{length, get_or, set, replicate}
 use mir.Facts.{eqb_no, not_T}
 use Rattle.finite.specs.Bounded.{decide}
-use Rattle.finite.specs.Chosen.{chosen, chosen_length, chosen_more, chosen_same, chosen_next, chosen_old}
+use Rattle.finite.specs.Chosen.{chosen}
+use Rattle.finite.proofs.Chosen.{chosen_length, chosen_more, chosen_same, chosen_next, chosen_old}
 use Rattle.finite.specs.Filled.{Filled, filled_none, filled_more}
 use Rattle.finite.specs.Queue.{Stored, below_next, stored_below}
 use Rattle.sheet.specs.Faults.{repeat_at}

@@ -10,13 +10,15 @@ use Rattle.std.proofs.Math.Dec.{T, eqb, leb}
 use Rattle.std.specs.Float.Ieee.Bits.{is_false}
 use Rattle.std.proofs.Math.Facts.{and_yes, yes_and, yes_eqb}
 use Rattle.finite.specs.Bounded.{any, any_yes, yes_any, decide}
-use Rattle.finite.specs.Chosen.{chosen_in}
+use Rattle.finite.proofs.Chosen.{chosen_in}
 use Rattle.finite.specs.Search.{nothing_found}
 use Rattle.ids.specs.Limits.{most_events}
 use Rattle.plan.specs.Compare.{SamePairs}
-use Rattle.plan.specs.OnlyPairs.{chosen_pair, only_pairs, before_among, before_same, only_among, only_all, pairs_before}
+use Rattle.plan.specs.OnlyPairs.{chosen_pair, only_pairs, before_among, only_among, only_all, pairs_before}
+use Rattle.plan.proofs.OnlyPairs.{before_same}
 use Rattle.plan.specs.Order.{Before, before}
-use Rattle.sheet.specs.Clear.{names_events, names_different, repeats_none}
+use Rattle.sheet.specs.Clear.{names_events, names_different}
+use Rattle.sheet.proofs.Clear.{repeats_none}
 use Rattle.sheet.specs.Faultless.{Faultless}
 use Rattle.sheet.specs.Faults.{no_event_at, self_pair_at, same_pair, repeat_at}
 use Rattle.sheet.specs.Items.{earlier_at, later_at, plan_of}
