@@ -12,6 +12,7 @@ bounds-from-k c =
     omega (arith, c.loop-k-test.true, c.requires.kept_le_most_pairs.0) in
     omega (arith, below)
 
+-- `ends`: its ends are events
 pub overflow_cast-a : goal.overflow_cast-a
 overflow_cast-a c =
     let ends : (get_or c.args.from.now c.loop-k.k 0 < most_events) × (get_or c.args.to.now c.loop-k.k 0 < most_events) =
