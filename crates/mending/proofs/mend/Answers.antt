@@ -7,6 +7,7 @@ use Rattle.mending.specs.Mended.{sheet_fault, mend_fault}
 use Rattle.mending.proofs.Answers.{fault_told, refused, known, laid, mended}
 use Rattle.mending.proofs.mend.Goals as goal
 
+-- `told`: the fault of the call
 pub returns-then-f-ne0 : goal.returns-then-f-ne0
 returns-then-f-ne0 c =
     let told : FaultTold c.args.s.now (mend_fault c.args.s.now c.args.clean.now c.args.reasons.now) c.with_row-b.result =
@@ -14,6 +15,7 @@ returns-then-f-ne0 c =
     let all = refused _ _ _ _ told c.if-f-ne0.true _ (omega arith) (omega arith) in
     record { result_value = all.0; clean_value = all.1.0; reasons_value = all.1.1 }
 
+-- `clear`, `layout_is`: what is known where there is no fault
 pub slice_bounds-given-end : goal.slice_bounds-given-end
 slice_bounds-given-end c =
     let told : FaultTold c.args.s.now (mend_fault c.args.s.now c.args.clean.now c.args.reasons.now) c.with_row-b.result =
@@ -27,6 +29,7 @@ slice_bounds-given-end c =
     let stands = laid _ _ _ _ told c.if-f-ne0.false in
     omega (arith, given-long, layout_is.pairs, stands.limited.pairs)
 
+-- `part`: the part of the row that has the reasons
 pub slice_bounds-put_word-end : goal.slice_bounds-put_word-end
 slice_bounds-put_word-end c =
     let told : FaultTold c.args.s.now (mend_fault c.args.s.now c.args.clean.now c.args.reasons.now) c.with_row-b.result =
