@@ -16,6 +16,7 @@ sum_up-totals-requires c =
     let missing = missing_row _ c.requires.faultless _ c.requires.layout_of _ _ c.count_all-first.ensures.0 _ _ c.above_openings.ensures in
     (small _ c.requires.faultless _ c.requires.layout_of _ _ missing, omega (arith, missing.size))
 
+-- `all`: what the counts come to
 pub put_counts-end-requires : goal.put_counts-end-requires
 put_counts-end-requires c =
     let all : Told c.args.s.now c.sum_up-totals.result =
