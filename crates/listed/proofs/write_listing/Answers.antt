@@ -10,6 +10,7 @@ returns-then-row-n c =
     let all = too_short _ _ _ _ _ c.put_listing-n.ensures (omega arith) _ (omega (arith, ap (λ (f : Fault). f.number) is)) (ap (λ (f : Fault). f.item) is) in
     record { result_value = all.0; row_value = all.1 }
 
+-- `part`: the part of the row that is the text
 pub slice_bounds-put_word-end : goal.slice_bounds-put_word-end
 slice_bounds-put_word-end c =
     let part : length (take c.put_listing-n.result c.put_listing-n.new.row) ≡ c.put_listing-n.result =
