@@ -19,7 +19,7 @@ use Rattle.finite.specs.Queue.{Stored, below_next, stored_below}
 use Rattle.sheet.specs.Faults.{repeat_at}
 use Rattle.sheet.specs.Items.{earlier_at, later_at}
 use Rattle.reasons.specs.KeptRows.{KeptRows, HoldsKept, MarkedIfKept, PutIfKept}
-use Rattle.reasons.specs.Laws.{kept_names, names_kept, kept_0}
+use Rattle.reasons.proofs.Laws.{kept_names, names_kept, kept_0}
 use Rattle.reasons.specs.Reasons.{reason_at, kept, names_two}
 use Rattle.reasons.proofs.Rows.{rows_start, rows_kept, rows_dropped}
 

@@ -1,3 +1,4 @@
 mod Tests
 mod Rows
 mod Giving
+pub mod Laws

@@ -16,7 +16,8 @@ use Rattle.sheet.specs.Faults.{no_event_at, self_pair_at, same_pair, repeat_at}
 use Rattle.sheet.specs.Items.{earlier_at, later_at}
 use Rattle.sheet.specs.Table.{events_of}
 use Rattle.reasons.specs.KeptRows.{proper_at, is_proper, KeptRows, reason_by}
-use Rattle.reasons.specs.Laws.{names_ends, same_names, same_yes, yes_same}
+use Rattle.reasons.specs.Laws.{same_yes, yes_same}
+use Rattle.reasons.proofs.Laws.{names_ends, same_names}
 use Rattle.reasons.specs.Reasons.{reason, reason_at, names_two}
 
 -- the third test counts only where the first two fail

@@ -2,7 +2,7 @@
 use Rattle.std.proofs.Common.{◌<◌, arith, ◌≡◌, ◌∙◌, rules, length, length-set}
 use Rattle.ids.specs.Limits.{most_pairs}
 use Rattle.sheet.specs.Table.{pairs_of}
-use Rattle.reasons.specs.Laws.{ends_few}
+use Rattle.reasons.proofs.Laws.{ends_few}
 use Rattle.reasons.specs.Reasons.{reason_at}
 use Rattle.reasons.proofs.Rows.{reason_marked}
 use Rattle.reasons.proofs.Giving.{most_one, so_far_start, so_far_more, so_far_few, so_far_all}
