@@ -7,7 +7,7 @@ use mathlib.Core.Path.{◌≡◌, refl, ap, ap₂, subst, ◌∙◌}
 use lib.ListN.{length}
 use lib.Seq.{slice}
 use Rattle.finite.specs.Bounded.{any, any_ext}
-use Rattle.finite.specs.Chosen.{chosen_length}
+use Rattle.finite.proofs.Chosen.{chosen_length}
 use Rattle.finite.specs.Each.{each, each_ext}
 use Rattle.finite.specs.Stands.{Bytes}
 use Rattle.ids.specs.Limits.{most_pairs}
@@ -15,17 +15,18 @@ use Rattle.layout.specs.declared.Layout.{Layout}
 use Rattle.layout.specs.Layout.{places_at, pairs_at, LaidBy}
 use Rattle.plan.specs.Compare.{SamePairs}
 use Rattle.plan.specs.Net.{Plan}
-use Rattle.plan.specs.OnlyPairs.{before_same, pairs_before}
+use Rattle.plan.specs.OnlyPairs.{pairs_before}
+use Rattle.plan.proofs.OnlyPairs.{before_same}
 use Rattle.plan.specs.Order.{before}
 use Rattle.reasons.specs.KeptRows.{HoldsKept}
-use Rattle.reasons.specs.Laws.{kept_ends}
+use Rattle.reasons.proofs.Laws.{kept_ends}
 use Rattle.reasons.specs.Reasons.{kept, kept_plan, kept_count, kept_cycle}
 use Rattle.sheet.specs.Items.{net_of, plan_of}
 use Rattle.sheet.specs.Laid.{Laid}
 use Rattle.sheet.specs.Table.{table_length, events_of, pairs_of}
 use Rattle.sorting.specs.Rows.{plan_by, PlanInRows, has_cycle}
 use Rattle.text.specs.Put.{Put, put_then, put_says}
-use Rattle.writer.specs.WriteBack.{bodies_part}
+use Rattle.writer.proofs.WriteBack.{bodies_part}
 use Rattle.writer.specs.Written.{layout_for, layout_of, table, pair_bytes, order_bytes, label_bytes, body_bytes, bytes_of}
 use Rattle.kept_pairs.specs.Clean.{clean_of}
 use Rattle.kept_pairs.specs.PairsKnown.{Events, rows_bytes}
