@@ -10,7 +10,8 @@ use Rattle.calls.specs.Call.{row_fault}
 use Rattle.calls.specs.declared.Written.TheVariants.{Refused, Length}
 use Rattle.calls.specs.Length.{says}
 use Rattle.calls.specs.Overwritten.{overwritten, filled_is, at_fault, at_none}
-use Rattle.calls.specs.Refusal.{FaultTold, Next, row_link}
+use Rattle.calls.specs.Refusal.{FaultTold, Next}
+use Rattle.calls.proofs.Refusal.{row_link}
 use Rattle.calls.specs.Said.{answer, said_answer, told_refusal}
 use Rattle.fault.specs.declared.Examined.{Examined}
 use Rattle.finite.specs.Filled.{Filled}
@@ -21,7 +22,8 @@ use Rattle.sheet.specs.Laid.{Laid}
 use Rattle.sheet.specs.Table.{pairs_of}
 use Rattle.text.specs.Put.{Put}
 use Rattle.kept_pairs.specs.Clean.{clean_of}
-use Rattle.mending.specs.Mendable.{mendable, CallClear, call_clear}
+use Rattle.mending.specs.Mendable.{CallClear}
+use Rattle.mending.proofs.Mendable.{mendable, call_clear}
 use Rattle.mending.specs.Mended.{sheet_fault, mend_fault, mend_says, clean_after, reasons_after}
 
 -- Numbers put at the start of a row fill it.

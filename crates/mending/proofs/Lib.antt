@@ -1,2 +1,5 @@
 mod Parts
 mod Answers
+pub mod Enough
+pub mod Mendable
+pub mod Theorems

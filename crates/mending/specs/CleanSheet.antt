@@ -3,22 +3,27 @@ use Rattle.std.specs.Prelude.{ℕ, ◌<◌, ◌≤◌, false, List, ◌↔◌, �
 use Rattle.std.proofs.Common.{arith, ap, subst, ◌∙◌}
 use Rattle.std.proofs.Math.Path.{sym}
 use Rattle.finite.specs.Bounded.{yes_any}
-use Rattle.finite.specs.Chosen.{chosen_in, chosen_up, chosen_length}
+use Rattle.finite.proofs.Chosen.{chosen_in, chosen_up, chosen_length}
 use Rattle.finite.specs.Search.{search_none, fails}
 use Rattle.finite.specs.Stands.{Bytes}
-use Rattle.plan.specs.OnlyPairs.{chosen_pair, before_same, pairs_before}
+use Rattle.plan.specs.OnlyPairs.{chosen_pair, pairs_before}
+use Rattle.plan.proofs.OnlyPairs.{before_same}
 use Rattle.plan.specs.Order.{Before, before}
-use Rattle.reasons.specs.Laws.{kept_names, kept_ends, yes_same}
+use Rattle.reasons.specs.Laws.{yes_same}
+use Rattle.reasons.proofs.Laws.{kept_names, kept_ends}
 use Rattle.reasons.specs.Reasons.{kept, kept_plan, kept_count, kept_cycle}
 use Rattle.sheet.specs.declared.Fault.{Fault}
-use Rattle.sheet.specs.Faultless.{Faultless, layout_laid}
+use Rattle.sheet.specs.Faultless.{Faultless}
+use Rattle.sheet.proofs.Faultless.{layout_laid}
 use Rattle.sheet.specs.Faults.{same_pair, repeat_at}
 use Rattle.sheet.specs.Items.{net_of, plan_of}
 use Rattle.sheet.specs.Laid.{Laid}
 use Rattle.sheet.specs.Table.{events_of, pairs_of}
-use Rattle.writer.specs.Lengths.{sheet_length}
-use Rattle.writer.specs.ReadBack.{Writable, SaysPlan, read_back}
-use Rattle.writer.specs.WriteBack.{written_bytes, last_start}
+use Rattle.writer.proofs.Lengths.{sheet_length}
+use Rattle.writer.specs.ReadBack.{Writable, SaysPlan}
+use Rattle.writer.proofs.ReadBack.{read_back}
+use Rattle.writer.specs.WriteBack.{last_start}
+use Rattle.writer.proofs.WriteBack.{written_bytes}
 use Rattle.kept_pairs.specs.Clean.{clean_of}
 use Rattle.mending.specs.Mendable.{Mendable}
 

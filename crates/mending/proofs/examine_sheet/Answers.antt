@@ -3,7 +3,7 @@ use Rattle.std.proofs.Common.{◌≡◌, sym, ap, subst, ◌∙◌}
 use Rattle.layout.specs.Layout.{LayoutOf}
 use Rattle.sheet.specs.Chain.{here, later}
 use Rattle.sheet.specs.Faults.{layout_faults, first_fault}
-use Rattle.sheet.specs.Faultless.{layout_laid}
+use Rattle.sheet.proofs.Faultless.{layout_laid}
 use Rattle.sheet.specs.declared.Fault.{Fault}
 use Rattle.mending.specs.Mended.{sheet_fault}
 use Rattle.mending.proofs.Parts.{from5, from11, from_1}
