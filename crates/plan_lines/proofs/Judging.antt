@@ -19,7 +19,8 @@ use Rattle.search.specs.Row.{members}
 use Rattle.summary.specs.declared.Verdict.{Verdict}
 use Rattle.summary.specs.declared.Verdict.TheVariants.{Runs, Short}
 use Rattle.summary.specs.Summary.{total_missing, short_places, first_short, short_number, verdict_number, VerdictOf, PlanValues, values_in, values_of, count_at, MissingCounts}
-use Rattle.summary.specs.Laws.{VerdictSays, verdict_says, verdict_fits}
+use Rattle.summary.specs.Laws.{VerdictSays}
+use Rattle.summary.proofs.Laws.{verdict_says, verdict_fits}
 use Rattle.place_counts.specs.declared.First.{First}
 use Rattle.summary.specs.declared.Totals.{Totals}
 use Rattle.place_counts.specs.First.{FirstTo}
