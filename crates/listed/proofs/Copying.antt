@@ -4,7 +4,7 @@ use native.Mathlib.Omega.{arith}
 use mathlib.Core.List.{List, ◌++◌}
 use mathlib.Core.Path.{◌≡◌, refl, sym, ap, ◌∙◌}
 use lib.ListN.{length, take, drop}
-use Rattle.calls.specs.Call.{short_row, long_row}
+use Rattle.calls.proofs.Call.{short_row, long_row}
 use Rattle.calls.specs.declared.Written.TheVariants.{Refused, Length}
 use Rattle.calls.specs.Length.{says}
 use Rattle.calls.specs.Overwritten.{at_fault, at_none}

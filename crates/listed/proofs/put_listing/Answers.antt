@@ -1,6 +1,6 @@
 -- `listed::put_listing`: a sheet is refused by its fault, or listed by what its examination handed on.
 use Rattle.std.proofs.Common.{arith, ◌≡◌, sym, ap, ◌∙◌}
-use Rattle.sheet.specs.Faultless.{faultless}
+use Rattle.sheet.proofs.Faultless.{faultless}
 use Rattle.sheet.specs.declared.Fault.{Fault}
 use Rattle.listed.proofs.ByFault.{listing_refused, listing_lines}
 use Rattle.listed.proofs.put_listing.Goals as goal
