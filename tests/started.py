@@ -178,7 +178,7 @@ def standard_files(script):
     refused, good, unwritten = (*script.refused(11)[:2], ""), (0, script.seventh, ""), script.failed("standard output can't be written")
     by_lines(script, (
         ('"$0" - <&-', script.failed("standard input is closed")),
-        ('"$0" - <.', script.failed("standard input can't be read: Is a directory")),
+        ('"$0" - <.', script.failed("standard input can't be read: Is a directory (os error 21)")),
         ('"$0" "$1" >&-', script.failed("standard output is closed")),
         ('"$0" "$1" <&- >&-', script.failed("standard output is closed")),
         ('"$0" "$1" >/dev/full', unwritten),
@@ -201,9 +201,18 @@ def standard_files(script):
     os.close(writer)
 
 
+# the crates of the small project that the program needs, in the order in which rt proves them
+ORDER = "abcdefghi"
+
+
+def proved(name):
+    """What rt says of a crate that it proves, at the end."""
+    return "library b: modules loaded=2 checked=0\ncrate %s: modules loaded=1 checked=4\nlogic=proved functions=1 sum=f\n" % name
+
+
 class Project:
-    """A copy of a script among a few crates, and an rt that counts its calls, prints lines and leaves a program. The crates are ten, eleven with one
-    that the program doesn't need."""
+    """A copy of a script among a few crates, and an rt that counts its calls, says lines on standard error, leaves a program, and prints what that would
+    print. The crates are ten, eleven with one that the program doesn't need."""
 
     def __init__(self, folder, script):
         self.folder, self.script = os.path.realpath(folder), script
@@ -211,13 +220,14 @@ class Project:
         needs = "# a line for each crate\na:\nb: a # and a comment\n\nc: a b\nd: c\ne: c d\nf: e io\ng: f\nh: g a\ni: h\nother: a\n%s: i h io libc\n"
         self.put("project/crates.txt", needs % script.name)
         self.put("project/crates/a/src/lib.rt", "")
+        self.put("project/crates/%s/src/main.rt" % script.name, "")
         self.put("project/tools/started.sh", "")
         for name in (script.name, "tools/started.sh"):
             shutil.copy(os.path.join(ROOT, name), self.path("project/" + name))
-        self.proved = "fn a::f: proved\nrt: a proved (1 s)\n"
-        self.proved += "".join("rt: %s proved (unchanged since it was last proved)\n" % name for name in "bcdefghi")
-        self.proved += "rt: %s proved (1 s)\nrt: %s ran as nobody, and wrote what its file 'stdout' has (0 s)\n" % (script.name, script.name)
-        self.proved += "rt: ok, 10 crates proved\n"
+        self.proved = "only=0 proved=0\nrt: chose --jobs 2 for a\nfn a::f: proved\n"
+        self.proved += "".join(proved(name) for name in (*ORDER, script.name))
+        self.proved += "linked target=x\nrt: running out/%s; to give it other input, run that file yourself\n" % script.name
+        self.made = self.path("project/crates/{0}/out/{0}".format(script.name))
         self.program = self.path("project/target/bin/" + script.name)
         self.log = self.path("project/target/%s.log" % script.name)
         self.rt()
@@ -228,17 +238,17 @@ class Project:
     def put(self, name, data, mode=0o644):
         return put(self.path(name), data, mode)
 
-    def rt(self, lines=None, program=None, stamp=True, status=0, before=""):
-        """Of a program, "" leaves none."""
+    def rt(self, lines=None, program=None, status=0, before=""):
+        """Of a program, "" leaves none. It works in the folder above the project."""
         program = self.script.stand_in if program is None else program
         self.put("lines", self.proved if lines is None else lines)
         self.put("program", program)
-        leave = "mkdir -p target/bin target/stamp\n" + (self.leave_program() if program else "")
-        leave += (": >" if stamp else "rm -f ") + "target/stamp/%s\n" % self.script.name
-        self.put("bin/rt", '#!/bin/sh\necho "$@" >>../calls\n%scat ../lines\n%sexit %d\n' % (before, leave, status), 0o755)
+        leave = self.leave_program() if program else ""
+        begin = '#!/bin/sh\necho "${PWD##*/project/}: $*" >>"%s/calls"\ncd "%s"\n' % (self.folder, self.folder)
+        self.put("bin/rt", begin + "%scat lines >&2\necho refused 1\n%sexit %d\n" % (before, leave, status), 0o755)
 
     def leave_program(self):
-        return "cp ../program target/bin/{0}\nchmod 755 target/bin/{0}\n".format(self.script.name)
+        return "mkdir -p '{1}'\ncp program '{0}'\nchmod 755 '{0}'\n".format(self.made, os.path.dirname(self.made))
 
     def environment(self):
         return dict(os.environ, PATH=self.path("bin") + os.pathsep + os.environ["PATH"])
@@ -276,7 +286,7 @@ def project(script):
 def building(script):
     with project(script) as tried:
         expect("the first call", tried.run(), tried.built("5 of 10", "10 of 10"))
-        expect("what rt was asked", tried.calls(), ["check " + script.name])
+        expect("what rt was asked", tried.calls(), ["crates/%s: run" % script.name])
         expect("the log", content(tried.log).decode(), tried.proved)
         expect("the second call", tried.run(), (0, script.printed, ""))
         tried.put("project/crates/b/src/lib.rt", "")
@@ -286,8 +296,14 @@ def building(script):
         os.truncate(tried.program, 0)
         expect("a call with an empty program", tried.run(), tried.built("5 of 10", "10 of 10"))
         expect("the calls of rt", len(tried.calls()), 4)
+        tried.put("project/crates/b/out/lib", "")
+        tried.put("project/crates/other/out/lib", "")
+        expect("a call after rt has built something else", tried.run(), (0, script.printed, ""))
+        tried.put("project/crates/b/proofs/out/Answers.antt", "")
+        tried.rt(lines="".join(proved(name) for name in ("d", "h", "i", script.name)))
+        expect("a call where some crates are proved already", tried.run(), tried.built("8 of 10", "10 of 10"))
     with project(script) as tried:
-        tried.rt(lines="other words\nrt: \nrt: a b proved (\n")
+        tried.rt(lines="other words\nrt: \nlogic=not-proved\ncrate a: \nlogic=proved\n")
         expect("an rt that prints other lines", tried.run(), tried.built())
         tried.put("project/crates.txt", "\0:::\n# nothing\n")
         tried.rt()
@@ -297,15 +313,15 @@ def building(script):
 def failing_builds(script):
     name = script.name
     with project(script) as tried:
-        tried.rt(lines="rt: a proved (1 s)\nrt: b NOT PROVED (exit 1, 2 s)\n", program="", stamp=False, status=1)
+        tried.rt(lines=proved("a") + "crate b: modules loaded=1 checked=1\nlogic=not-proved\n", program="", status=1)
         for _ in range(2):
             expect("a crate that isn't proved", tried.run(), tried.unbuilt())
         tried.rt(program="")
         expect("no program", tried.run(), tried.unbuilt("5 of 10", "10 of 10"))
-        tried.rt(lines="rt: %s proved, and its run FAILED (0 s)\n" % name, program="#!/bin/sh\necho refused 1\n", stamp=False, status=1)
+        tried.rt(lines="rt: running out/%s; to give it other input, run that file yourself\n" % name, program="#!/bin/sh\necho refused 1\n", status=1)
         for _ in range(2):
             expect("a program whose run failed", tried.run(), tried.unbuilt())
-        tried.rt(before="grep SigIgn: /proc/self/status >../ignored\n")
+        tried.rt(before="grep SigIgn: /proc/self/status >ignored\n")
         expect("mended", tried.run(), tried.built("5 of 10", "10 of 10"))
         ignored = int(content(tried.path("ignored")).split()[1], 16)
         expect("signals that rt ignores", [name for name in ("SIGPIPE", "SIGXFSZ") if ignored >> getattr(signal, name) - 1 & 1], [])
@@ -376,7 +392,7 @@ def two_at_once(script):
         print("%s: there is no flock, so two calls at once aren't tried" % TEST)
         return
     with project(script) as tried:
-        tried.rt(before="until [ -e ../go ]; do sleep 0.05; done\n")
+        tried.rt(before="until [ -e go ]; do sleep 0.05; done\n")
         first = tried.start()
         wait_until("the first call of rt", tried.calls)
         second = tried.start()
@@ -414,7 +430,7 @@ def interrupted(script):
     with project(script) as tried:
         pipe = tried.path("pipe")
         os.mkfifo(pipe)
-        tried.rt(before="mkdir -p target/bin\n%sexec cat ../pipe\n" % tried.leave_program())
+        tried.rt(before="%sexec cat pipe\n" % tried.leave_program())
         call = tried.start()
         end = reader_of(pipe)
         os.killpg(call.pid, signal.SIGINT)
@@ -465,13 +481,14 @@ def by_shell(program, line):
 def read_errors(name, program):
     """A read that fails isn't the end of the sheet: nothing is written, and the reason is said."""
     unread = name + ": standard input can't be read: "
-    expect("a directory", by_shell(program, '"$0" <.'), (b"", unread + "Is a directory\n"))
-    expect("a closed input", by_shell(program, '"$0" <&-'), (b"", unread + "Bad file descriptor\n"))
+    expect("a directory", by_shell(program, '"$0" <.'), (b"", unread + "Is a directory (os error 21)\n"))
+    expect("a closed input", by_shell(program, '"$0" <&-'), (b"", unread + "Bad file descriptor (os error 9)\n"))
     for sheet in (SEVENTH, CYCLE):
         reader, writer = os.pipe()
         os.set_blocking(reader, False)
         os.write(writer, content(sheet))
-        expect("a read that fails after a whole sheet", run(program, stdin=reader)[1:], (b"", unread + "Resource temporarily unavailable\n"))
+        due = b"", unread + "Resource temporarily unavailable (os error 11)\n"
+        expect("a read that fails after a whole sheet", run(program, stdin=reader)[1:], due)
         os.close(reader)
         os.close(writer)
 
@@ -479,7 +496,7 @@ def read_errors(name, program):
 def write_errors(name, program):
     """A write that fails is told."""
     unwritten = name + ": standard output can't be written: "
-    for output, said in ((">/dev/full", "No space left on device"), (">&-", "Bad file descriptor")):
+    for output, said in ((">/dev/full", "No space left on device (os error 28)"), (">&-", "Bad file descriptor (os error 9)")):
         expect("a failed write", by_shell(program, '"$0" <examples/seventh.sheet ' + output), (b"", unwritten + said + "\n"))
 
 

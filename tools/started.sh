@@ -38,33 +38,42 @@ words_of() {
     echo "${faults[$1]-a fault without a name}"
 }
 
-# crates_to_prove: the number of crates that the program needs, with itself
+# crates_to_prove: the names of the crates that the program needs and its own, each after those that it needs, which is the order in which rt proves them
 crates_to_prove() {
     awk -v program="$program" '
         { sub(/#.*/, ""); at = index($0, ":") }
-        at { name = substr($0, 1, at - 1); gsub(/[ \t]/, "", name); needs[name] = substr($0, at + 1) }
+        at { name = substr($0, 1, at - 1); sub(/^[ \t]+/, "", name); sub(/[ \t].*/, "", name); needs[name] = substr($0, at + 1) }
         function visit(name,    list, count, k) {
             if (!(name in needs) || name in seen) return
             seen[name] = 1
-            found++
             count = split(needs[name], list, " ")
             for (k = 1; k <= count; k++) visit(list[k])
+            print name
         }
-        END { visit(program); print found + 0 }' crates.txt
+        END { visit(program) }' crates.txt
 }
 
-# show_progress TOTAL: how many crates are proved, from what rt prints, on standard error: on a terminal in one line, else a line for every fifth
+# show_progress NAMES: how many of these crates are proved, from what rt prints, on standard error: on a terminal in one line, else a line for every
+# fifth. Of a crate that an earlier build has proved rt says nothing, so the place of the crate that is proved tells how many are.
 show_progress() {
-    local of=" of $1" count=0 line
-    [ "$1" -gt 0 ] || of=
+    local names=($1) of= count=0 before=0 name= line k
+    [ ${#names[@]} -eq 0 ] || of=" of ${#names[@]}"
     while IFS= read -r line; do
-        [[ $line =~ ^rt:\ [A-Za-z0-9_]+\ proved\ \( ]] || continue
+        if [[ $line =~ ^crate\ ([a-z0-9_]+):\ modules\  ]]; then
+            name=${BASH_REMATCH[1]}
+        fi
+        [[ $line =~ ^logic=proved\  ]] || continue
         count=$((count + 1))
+        for k in "${!names[@]}"; do
+            [ "${names[k]}" != "$name" ] || count=$((k + 1))
+        done
+        name=
         if [ -t 2 ]; then
             printf '\r%s: %d%s crates proved' "$program" "$count" "$of" >&2 || :
-        elif [ $((count % 5)) -eq 0 ] || [ "$count" -eq "$1" ]; then
+        elif [ $((count / 5)) -gt $((before / 5)) ] || [ "$count" -eq ${#names[@]} ]; then
             say "$count$of crates proved"
         fi
+        before=$count
     done
     if [ -t 2 ] && [ "$count" -gt 0 ]; then
         echo >&2 || :
@@ -76,9 +85,24 @@ is_program() {
     [ -x "target/bin/$program" ] && [ -s "target/bin/$program" ]
 }
 
-# is_built: the program is there, rt has proved and run it, and no source is newer
+# is_built: the program is there, it was proved and run, and no source is newer. A crate's out/ is what rt makes of its sources, and making it changes the
+# time of the crate's own folder.
 is_built() {
-    is_program && [ -e "target/stamp/$program" ] && [ -z "$(find crates crates.txt -newer "target/bin/$program" -print -quit)" ]
+    is_program && [ -e "target/stamp/$program" ] && [ ! crates.txt -nt "target/bin/$program" ] &&
+        [ -z "$(find crates -mindepth 2 -path 'crates/*/out' ! -path 'crates/*/*/out' -prune -o -newer "target/bin/$program" -print -quit)" ]
+}
+
+# prove: proves, builds and runs the program, on an empty sheet. What the program prints goes nowhere.
+prove() (
+    trap - PIPE XFSZ
+    CDPATH= cd "crates/$program" && exec rt run </dev/null 2>&1 >/dev/null
+)
+
+# put_program: puts the program that rt has built where it is started. It appears as a whole, as old as the time at which its build began.
+put_program() {
+    local made=crates/$program/out/$program
+    [ -x "$made" ] && [ -s "$made" ] && mkdir -p target/bin target/stamp && cp "$made" "$new" && touch -r "$begun" "$new" &&
+        mv -f "$new" "target/bin/$program" && : >"target/stamp/$program"
 }
 
 # build: proves and builds the program. Of two calls at once the second waits, also where they build different programs, as in ./mend SHEET | ./listing -.
@@ -86,7 +110,7 @@ is_built() {
 build() (
     command -v rt >/dev/null || fail "the program isn't built, and building it needs the Rattle toolchain (rt), which isn't on the PATH"
     unwritable="the program has to be built, and $PWD/target can't be written"
-    log=target/$program.log begun=target/$program.begun
+    log=target/$program.log begun=target/$program.begun new=target/$program.new
     { mkdir -p target && exec 9>>target/started.lock; } 2>/dev/null || fail "$unwritable"
     if command -v flock >/dev/null && ! flock -n 9; then
         say "another call builds the program; this one waits for it"
@@ -94,12 +118,10 @@ build() (
         ! is_built || exit 0
     fi
     { touch "$begun" && : >"$log"; } 2>/dev/null || fail "$unwritable"
-    # rt doesn't build a program again that it has proved, even if the program's file is gone
-    is_program || rm -f "target/bin/$program" "target/stamp/$program" || fail "$unwritable"
+    rm -f "target/stamp/$program" || fail "$unwritable"
     say "proving and building the program; the first time this takes some minutes (log: $PWD/$log)"
-    total=$(crates_to_prove) || total=0
-    (trap - PIPE XFSZ && exec rt check "$program") </dev/null 2>&1 | tee "$log" | show_progress "$total" &&
-        is_program && touch -r "$begun" "target/bin/$program" || fail "the program wasn't built; see $PWD/$log"
+    names=$(crates_to_prove) || names=
+    prove | tee "$log" | show_progress "$names" && put_program 2>>"$log" || fail "the program wasn't built; see $PWD/$log"
 )
 
 # is_text: standard input is a file that holds something, and no control characters but tabs and line ends. A sheet has zeros in its table.
