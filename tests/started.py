@@ -178,7 +178,7 @@ def standard_files(script):
     refused, good, unwritten = (*script.refused(11)[:2], ""), (0, script.seventh, ""), script.failed("standard output can't be written")
     by_lines(script, (
         ('"$0" - <&-', script.failed("standard input is closed")),
-        ('"$0" - <.', script.failed("standard input can't be read: Is a directory (os error 21)")),
+        ('"$0" - <.', script.failed("standard input can't be read: Is a directory")),
         ('"$0" "$1" >&-', script.failed("standard output is closed")),
         ('"$0" "$1" <&- >&-', script.failed("standard output is closed")),
         ('"$0" "$1" >/dev/full', unwritten),
@@ -481,13 +481,13 @@ def by_shell(program, line):
 def read_errors(name, program):
     """A read that fails isn't the end of the sheet: nothing is written, and the reason is said."""
     unread = name + ": standard input can't be read: "
-    expect("a directory", by_shell(program, '"$0" <.'), (b"", unread + "Is a directory (os error 21)\n"))
-    expect("a closed input", by_shell(program, '"$0" <&-'), (b"", unread + "Bad file descriptor (os error 9)\n"))
+    expect("a directory", by_shell(program, '"$0" <.'), (b"", unread + "Is a directory\n"))
+    expect("a closed input", by_shell(program, '"$0" <&-'), (b"", unread + "Bad file descriptor\n"))
     for sheet in (SEVENTH, CYCLE):
         reader, writer = os.pipe()
         os.set_blocking(reader, False)
         os.write(writer, content(sheet))
-        due = b"", unread + "Resource temporarily unavailable (os error 11)\n"
+        due = b"", unread + "Resource temporarily unavailable\n"
         expect("a read that fails after a whole sheet", run(program, stdin=reader)[1:], due)
         os.close(reader)
         os.close(writer)
@@ -496,7 +496,7 @@ def read_errors(name, program):
 def write_errors(name, program):
     """A write that fails is told."""
     unwritten = name + ": standard output can't be written: "
-    for output, said in ((">/dev/full", "No space left on device (os error 28)"), (">&-", "Bad file descriptor (os error 9)")):
+    for output, said in ((">/dev/full", "No space left on device"), (">&-", "Bad file descriptor")):
         expect("a failed write", by_shell(program, '"$0" <examples/seventh.sheet ' + output), (b"", unwritten + said + "\n"))
 
 

@@ -9,21 +9,15 @@ use calls::Written;
 use layout::LONGEST;
 use lines::LISTING_ROOM;
 use listed::write_listing;
-use standard_input::{Input, read_sheet};
-use std::io;
+use standard_input::{Input, read_sheet, report};
 use std::io::Write;
 
 fn print(rt: &HostRuntime, text: &[u8], n: usize) {
     if n <= text.len() {
         if let Err(error) = rt.stdout().write_all(&text[0..n]) {
-            fail(rt, "standard output can't be written", error);
+            report(rt, "listing", "standard output can't be written", error);
         }
     }
-}
-
-// Says on standard error what failed. Where that can't be written either, nothing is left to be done.
-fn fail(rt: &HostRuntime, what: &str, error: io::Error) {
-    let _ = eprintln!(rt; "listing: {what}: {error}");
 }
 
 fn list(rt: &HostRuntime, sheet: &[u8], n: usize) {
@@ -42,6 +36,6 @@ fn main(rt: HostRuntime) {
     let input = read_sheet(&mut rt.stdin(), &mut sheet);
     match input {
         Input::Bytes(n) => list(&rt, &sheet, n),
-        Input::Failed(error) => fail(&rt, "standard input can't be read", error),
+        Input::Failed(error) => report(&rt, "listing", "standard input can't be read", error),
     }
 }

@@ -15,8 +15,7 @@ use layout::{LONGEST, Layout, TABLE, layout_of};
 use mending::mend;
 use numbers::get16;
 use sheet::Fault;
-use standard_input::{Input, read_sheet};
-use std::io;
+use standard_input::{Input, read_sheet, report};
 use std::io::Write;
 use words::{put_dropped, put_refused};
 
@@ -28,11 +27,6 @@ fn say(rt: &HostRuntime, line: &[u8], n: usize) {
     if n <= line.len() {
         let _ = rt.stderr().write_all(&line[0..n]);
     }
-}
-
-// Says on standard error what failed.
-fn fail(rt: &HostRuntime, what: &str, error: io::Error) {
-    let _ = eprintln!(rt; "mend: {what}: {error}");
 }
 
 fn refuse(rt: &HostRuntime, f: Fault) {
@@ -86,7 +80,7 @@ fn print(rt: &HostRuntime, clean: &[u8], n: usize) -> bool {
     match rt.stdout().write_all(&clean[0..n]) {
         Ok(()) => true,
         Err(error) => {
-            fail(rt, "standard output can't be written", error);
+            report(rt, "mend", "standard output can't be written", error);
             false
         }
     }
@@ -117,6 +111,6 @@ fn main(rt: HostRuntime) {
     let input = read_sheet(&mut rt.stdin(), &mut row);
     match input {
         Input::Bytes(n) => mend_part(&rt, &row, n),
-        Input::Failed(error) => fail(&rt, "standard input can't be read", error),
+        Input::Failed(error) => report(&rt, "mend", "standard input can't be read", error),
     }
 }

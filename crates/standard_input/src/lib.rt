@@ -2,7 +2,7 @@
 #![tactic(auto)]
 
 use std::io;
-use std::io::{ErrorKind, Read};
+use std::io::{Eprint, ErrorKind, Read};
 
 #[derive(Drop)]
 pub enum Input {
@@ -29,4 +29,25 @@ pub fn read_sheet<R: Read>(input: &mut R, row: &mut [u8]) -> Input {
         }
     }
     Input::Failed(io::Error::from(ErrorKind::Interrupted))
+}
+
+// The system's words for an error, without its number.
+fn words_alone(told: &str) -> &str {
+    match told.split_once(" (os error ") {
+        Some((words, _)) => words,
+        None => told,
+    }
+}
+
+// Says on standard error what failed and why. Where that can't be written either, nothing is left to be done.
+pub fn report<R: Eprint + AllocGlobal>(rt: &R, program: &str, what: &str, error: io::Error) {
+    match format!(in rt.alloc(); "{error}") {
+        Ok(told) => {
+            let words = words_alone(told.as_str());
+            let _ = eprintln!(rt; "{program}: {what}: {words}");
+        }
+        Err(_) => {
+            let _ = eprintln!(rt; "{program}: {what}: {error}");
+        }
+    }
 }
