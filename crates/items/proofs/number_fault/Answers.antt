@@ -16,8 +16,7 @@ returns-then-weight-ne0 c =
 
 pub returns : goal.returns
 returns c =
-    let no-5 : first_fault number_faults c.args.s.now ≡ from6 c.args.s.now =
-    later _ (from_5 _) c.over_opening-opening.ensures c.if-opening-ne0.false in
+    let no-5 : first_fault number_faults c.args.s.now ≡ from6 c.args.s.now = later _ (from_5 _) c.over_opening-opening.ensures c.if-opening-ne0.false in
     let no-6 : first_fault number_faults c.args.s.now ≡ from7 c.args.s.now =
     later _ no-5 c.over_weight-weight.ensures c.if-weight-ne0.false in
     c.no_transition.ensures ∙ sym no-6
