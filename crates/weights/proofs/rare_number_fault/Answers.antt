@@ -14,6 +14,5 @@ returns-then-opening-ne0 c =
 
 pub returns : goal.returns
 returns c =
-    let no-6 : first_fault number_faults c.args.s.now ≡ or_else (tell 5 (over_opening c.args.s.now)) (tell 7 (no_transition c.args.s.now)) =
-    none_heavy _ c.any_heavy.ensures c.if-any_heavy.false in
+    let no-6 : first_fault number_faults c.args.s.now ≡ or_else (tell 5 (over_opening c.args.s.now)) (tell 7 (no_transition c.args.s.now)) = none_heavy _ c.any_heavy.ensures c.if-any_heavy.false in
     c.no_transition.ensures ∙ sym (later _ no-6 c.over_opening-opening.ensures c.if-opening-ne0.false)
