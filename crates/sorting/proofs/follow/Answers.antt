@@ -5,6 +5,7 @@ use Rattle.sorting.proofs.follow.Goals as goal
 
 pub bounds-queue-h : goal.bounds-queue-h
 bounds-queue-h c =
+    -- the event at h has a number below 256, and so has its place
     let place : c.args.h < most_events =
     omega (arith, c.requires.round.1, queued_few _ _ _ _ _ c.requires.round.0, c.requires.plan_in_rows.few) in
     omega (arith, place)
@@ -40,8 +41,10 @@ loop-at-init c =
 
 pub bounds-to-i : goal.bounds-to-i
 bounds-to-i c =
+    -- `at` leads to a pair
     let more : 0 < c.loop-at.at =
     omega (arith, c.loop-at-test.true) in
+    -- it is one of those
     let below : c.loop-at.at - 1 < most_pairs =
     let within = c.requires.plan_in_rows in
     omega (arith, walking_pair _ _ _ _ _ c.requires.lists within.few within.named _ _ _ _ c.loop-at.invariant more, within.most) in
@@ -51,6 +54,7 @@ pub overflow_cast-v : goal.overflow_cast-v
 overflow_cast-v c =
     let more : 0 < c.loop-at.at =
     omega (arith, c.loop-at-test.true) in
+    -- it ends at an event that waits for it, and there is room in the queue
     let ends : (get_or c.args.to.now (c.loop-at.at - 1) 0 < most_events) × (1 ≤ get_or c.loop-at.left (get_or c.args.to.now (c.loop-at.at - 1) 0) 0) × (c.loop-at.end < most_events) =
     let within = c.requires.plan_in_rows in
     walking_needs _ _ _ _ _ c.requires.lists within.few within.named _ _ _ _ c.loop-at.invariant more in

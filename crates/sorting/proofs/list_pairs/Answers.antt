@@ -12,6 +12,7 @@ bounds-from-i c =
 
 pub overflow_cast-a : goal.overflow_cast-a
 overflow_cast-a c =
+    -- its ends are events
     let events : (get_or c.args.from.now c.loop-i.i 0 < most_events) × (get_or c.args.to.now c.loop-i.i 0 < most_events) =
     let within = c.requires.plan_in_rows in (
       omega (arith, within.named.earlier _ c.loop-i-test.true, within.few),

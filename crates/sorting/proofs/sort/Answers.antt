@@ -8,6 +8,7 @@ follow-end-requires c = record { plan_in_rows = c.requires.plan_in_rows; lists =
 
 pub overflow_add-h : goal.overflow_add-h
 overflow_add-h c =
+    -- the place at h is one of 256
     let place : c.loop-h.h < most_events =
     omega (arith, c.loop-h-test.true, queued_few _ _ _ _ _ c.loop-h.invariant, c.requires.plan_in_rows.few) in
     omega (arith, place)
