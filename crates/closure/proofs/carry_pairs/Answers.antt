@@ -6,6 +6,7 @@ use Rattle.closure.proofs.carry_pairs.Goals as goal
 
 pub bounds-queue-h : goal.bounds-queue-h
 bounds-queue-h c =
+    -- the event at h has a number below 256, and so has its place
     let place : c.args.h < most_events =
     omega (arith, c.requires.sorted.1, c.requires.sorted.0.within.few) in
     omega (arith, place)
@@ -39,6 +40,7 @@ loop-at-init c = along_start _ _ _ _ _ _ _ c.requires.sorted.0 _ c.requires.sort
 
 pub bounds-to-i : goal.bounds-to-i
 bounds-to-i c =
+    -- `at` leads to a pair
     let more : 0 < c.loop-at.at =
     omega (arith, c.loop-at-test.true) in
     let below : c.loop-at.at - 1 < most_pairs =
@@ -49,6 +51,7 @@ pub overflow_cast-v : goal.overflow_cast-v
 overflow_cast-v c =
     let more : 0 < c.loop-at.at =
     omega (arith, c.loop-at-test.true) in
+    -- which ends at an event
     let ends : get_or c.args.to.now (c.loop-at.at - 1) 0 < most_events =
     this_end _ _ _ _ _ _ _ c.requires.sorted.0 _ c.requires.sorted.1 _ _ _ c.loop-at.invariant more in
     omega (arith, ends)
