@@ -17,6 +17,7 @@ returns-then-sorted-events c =
 pub close-requires : goal.close-requires
 close-requires c =
     record {
+      -- all events are in the queue
       sorted = all_sorted c.requires.plan_in_rows c.sort_events-sorted.ensures (omega arith);
       within = c.requires.within;
     }

@@ -15,6 +15,7 @@ loop-i-init c = (search rules, search_start _, start _ _ _ _ c.requires.blank)
 
 pub is_marked-requires : goal.is_marked-requires
 is_marked-requires c =
+    -- both ends of the pair are events
     let within : (c.earlier-a.result.0 < most_events) × (c.later-b.result.0 < most_events) =
     few_ends _ c.requires.laid_by.0 c.requires.s_value _ c.earlier-a.ensures c.later-b.ensures (omega (arith, c.requires.laid_by.1.pairs)) in
     omega (arith, within)
@@ -27,6 +28,7 @@ unfolding repeated
 returns-then-is_marked c =
     let within : (c.earlier-a.result.0 < most_events) × (c.later-b.result.0 < most_events) =
     few_ends _ c.requires.laid_by.0 c.requires.s_value _ c.earlier-a.ensures c.later-b.ensures (omega (arith, c.requires.laid_by.1.pairs)) in
+    -- the mark of the pair says whether it is a repeat
     let repeats : marked c.loop-i.succ c.earlier-a.result.0 c.later-b.result.0 ≡ repeat_at c.args.s.now c.loop-i.i =
     repeat_marked _ _ _ _ _ c.loop-i.invariant.2 _ _ c.earlier-a.ensures c.later-b.ensures within.1 in
     let found = first_found _ _ _ _ c.requires.laid_by.1.pairs c.loop-i-test.true c.loop-i.invariant.1 (search (told, repeats)) in

@@ -17,6 +17,7 @@ returns-then-repeat-ne0 c =
 pub arrange-requires : goal.arrange-requires
 arrange-requires c =
     let given = c.requires in
+    -- without a repeat all pairs stand in the rows
     let held = c.mark_pairs-repeat.ensures.pairs_held c.if-repeat-ne0.false in
     record {
       plan_in_rows = in_rows _ _ given.laid_by given.s_value held;
