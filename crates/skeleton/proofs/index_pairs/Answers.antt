@@ -9,6 +9,7 @@ loop-i-init c = (search rules, links_none _ _ _ _ (omega arith) (search rules) (
 
 pub is_skeleton-requires : goal.is_skeleton-requires
 is_skeleton-requires c =
+    -- both ends of the pair are events
     let ends : (c.earlier-a.result.0 < most_events) × (c.later-b.result.0 < most_events) =
     within c.requires.faultless.0 (omega arith) c.earlier-a.ensures c.later-b.ensures in
     omega (arith, ends)

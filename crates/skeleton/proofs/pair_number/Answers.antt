@@ -11,6 +11,7 @@ loop-a-init c = λ b sought. sought
 
 pub overflow_add-i : goal.overflow_add-i
 overflow_add-i c =
+    -- the search in the list of b
     let seeking : Seeking c.args.index.now c.args.a.0 c.args.b.0 c.loop-a.i =
     c.loop-a.invariant _ (seek_start _ _ _ c.requires.a_lt_most_events.1 c.requires.may_find _ (omega (arith, c.entry-i.ensures))) in
     omega (arith, seek_few seeking)
@@ -37,6 +38,7 @@ pub overflow_sub-i-in-loop-a : goal.overflow_sub-i-in-loop-a
 overflow_sub-i-in-loop-a c =
     let seeking : Seeking c.args.index.now c.args.a.0 c.args.b.0 c.loop-a.i =
     c.loop-a.invariant _ (seek_start _ _ _ c.requires.a_lt_most_events.1 c.requires.may_find _ (omega (arith, c.entry-i.ensures))) in
+    -- it starts elsewhere
     let other : ¬ (get_or c.args.index.now (start_at c.loop-a.i) 0 ≡ c.args.a.0) =
     λ e. omega (arith, c.loop-a-test.true, c.entry.ensures) in
     omega (arith, c.entry-i-in-loop-a.ensures, seek_more seeking other)
