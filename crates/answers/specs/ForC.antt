@@ -3,7 +3,7 @@
 use Rattle.std.specs.Prelude.{ℕ, Bool, cond, ◌≡◌, ℤ, pos}
 use Rattle.std.proofs.Math.Option.{Option, none, some}
 use Rattle.calls.specs.Said.{Said}
-use Rattle.sheet.specs.declared.Fault.{Fault}
+use Rattle.sheet.specs.Told.{Told}
 use Rattle.summary.specs.Summary.{PlanValues}
 
 -- one of an answer's values, or what stands for it where there are none
@@ -12,7 +12,7 @@ value_or other f none = other
 value_or other f (some x) = f x
 
 -- A fault: its number is returned, its item is behind a pointer.
-abbrev pub FaultTold : Fault → ℕ → ℕ → Type 0
+abbrev pub FaultTold : Told → ℕ → ℕ → Type 0
 FaultTold fault r item = (r ≡ fault.number) × (item ≡ fault.item)
 
 -- the first short place that the plan judgement says, 0 where nothing is short

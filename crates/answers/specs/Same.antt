@@ -2,14 +2,13 @@
 use Rattle.std.specs.Prelude.{ℕ, Bool, ◌≡◌, ℤ}
 use Rattle.std.proofs.Common.{subst}
 use Rattle.calls.specs.Said.{Said}
-use Rattle.sheet.specs.Told.{no_fault}
-use Rattle.sheet.specs.declared.Fault.{Fault}
+use Rattle.sheet.specs.Told.{no_fault, Told}
 use Rattle.summary.specs.Summary.{PlanValues}
 use Rattle.answers.specs.ForC.{FaultTold, PlanTold, PlaceTold, CheckTold, MendTold, ListingTold}
 
 -- a fault that is none
-pub none_told : (f : Fault) (r item : ℕ) → f ≡ no_fault → FaultTold f r item → FaultTold no_fault r item
-none_told f r item e h = subst (λ (x : Fault). FaultTold x r item) e h
+pub none_told : (f : Told) (r item : ℕ) → f ≡ no_fault → FaultTold f r item → FaultTold no_fault r item
+none_told f r item e h = subst (λ (x : Told). FaultTold x r item) e h
 
 module _ {said due : Said PlanValues} {r item total short first : ℕ} where
   pub plan_told : said ≡ due → PlanTold said r item total short first → PlanTold due r item total short first

@@ -1,117 +1,96 @@
 // An answer told in numbers: the fault's number is returned, and what C gets through pointers is written in every case.
 #![tactic(auto)]
 
-ghost use Rattle.std.specs.Prelude.{◌≤◌};
-ghost use Rattle.calls.specs.Length.{says as saysWritten};
-ghost use Rattle.flowcheck.specs.Checked.{says as saysChecked};
+ghost use Rattle.std.specs.Prelude.{◌≤◌, ◌≡◌};
+ghost use Rattle.calls.specs.Said.{says as saysValue};
 ghost use Rattle.ids.specs.Limits.{most_places};
-ghost use Rattle.place_judgement.specs.Judgement.{says as saysJudged};
 ghost use Rattle.plan_judgement.specs.Judgement.{says};
-ghost use Rattle.answers.specs.ForC.{first_said, FaultTold, PlanTold, PlaceTold, CheckTold, ListingTold, MendTold};
+ghost use Rattle.sheet.specs.Answered.{told_by};
+ghost use Rattle.answers.specs.ForC.{first_said, value_or, FaultTold, PlanTold, PlaceTold, CheckTold, ListingTold, MendTold};
 
-use calls::Written;
-use flowcheck::Checked;
-use place_judgement::Judgement;
-use plan_judgement::Answer;
-use sheet::{Fault, no_fault};
-use summary::first_place;
+use sheet::Fault;
+use summary::{Totals, first_place};
 
 // A fault, or that there is none.
-pub fn tell_fault(f: Fault, item: &mut u32) -> u32
-    ensures { FaultTold f result item.new }
+pub fn tell_fault<T: Copy>(answer: Result<T, Fault>, item: &mut u32) -> u32
+    ensures { FaultTold (told_by answer) result item.new }
 {
-    let number = f.number;
-    *item = f.item;
-    number
+    match answer {
+        Ok(_) => {
+            *item = 0;
+            0
+        }
+        Err(fault) => {
+            *item = fault.item();
+            fault.number()
+        }
+    }
+}
+
+// An answer of one value, for which `none` stands where the call is refused.
+fn tell_value<T: Copy>(answer: Result<T, Fault>, none: T, item: &mut u32, value: &mut T) -> u32
+    ensures fault { FaultTold (saysValue answer).fault result item.new }
+    ensures value { value.new ≡ value_or none (λ x. x) (saysValue answer).values }
+{
+    *value = answer.unwrap_or(none);
+    tell_fault(answer, item)
 }
 
 // What the plan judgement says.
 pub fn tell_plan(
-    a: Answer,
+    answer: Result<Totals, Fault>,
     item: &mut u32,
     total: &mut u32,
     short: &mut u32,
     first: &mut u32,
 ) -> u32
-    requires { first_said (says a) ≤ most_places }
-    ensures { PlanTold (says a) result item.new total.new short.new first.new }
+    requires { first_said (says answer) ≤ most_places }
+    ensures { PlanTold (says answer) result item.new total.new short.new first.new }
 {
-    match a {
-        Answer::Refused(f) => {
+    match answer {
+        Ok(totals) => {
+            *total = totals.total;
+            *short = totals.short;
+            *first = first_place(totals.verdict);
+        }
+        Err(_) => {
             *total = 0;
             *short = 0;
             *first = 0;
-            tell_fault(f, item)
-        }
-        Answer::Judged(totals) => {
-            let v = totals.verdict;
-            *total = totals.total;
-            *short = totals.short;
-            *first = first_place(v);
-            tell_fault(no_fault(), item)
         }
     }
+    tell_fault(answer, item)
 }
 
 // What the place judgement says.
-pub fn tell_place(j: Judgement, item: &mut u32, spare: &mut i32) -> u32
-    ensures { PlaceTold (saysJudged j) result item.new spare.new }
+pub fn tell_place(answer: Result<i32, Fault>, item: &mut u32, spare: &mut i32) -> u32
+    ensures { PlaceTold (saysValue answer) result item.new spare.new }
 {
-    match j {
-        Judgement::Refused(f) => {
-            *spare = 0;
-            tell_fault(f, item)
-        }
-        Judgement::Spare(z) => {
-            *spare = z;
-            tell_fault(no_fault(), item)
-        }
-    }
+    tell_value(answer, 0, item, spare)
 }
 
 // What the flow check says.
-pub fn tell_check(c: Checked, item: &mut u32, valid: &mut u32) -> u32
-    ensures { CheckTold (saysChecked c) result item.new valid.new }
+pub fn tell_check(answer: Result<bool, Fault>, item: &mut u32, valid: &mut u32) -> u32
+    ensures { CheckTold (saysValue answer) result item.new valid.new }
 {
-    *valid = 0;
-    match c {
-        Checked::Refused(f) => tell_fault(f, item),
-        Checked::Valid => {
-            *valid = 1;
-            tell_fault(no_fault(), item)
-        }
-        Checked::Invalid => tell_fault(no_fault(), item),
-    }
+    *valid = match answer {
+        Ok(true) => 1,
+        _ => 0,
+    };
+    tell_fault(answer, item)
 }
 
-// What the listing's call says.
-pub fn tell_listing(a: Written, written: &mut usize) -> u32
-    ensures { ListingTold (saysWritten a) result written.new }
+// What the listing's call says. Its one fault has no item.
+pub fn tell_listing(answer: Result<usize, Fault>, written: &mut usize) -> u32
+    ensures { ListingTold (saysValue answer) result written.new }
 {
-    match a {
-        Written::Refused(f) => {
-            *written = 0;
-            f.number
-        }
-        Written::Length(n) => {
-            *written = n;
-            0
-        }
-    }
+    let mut item = 0;
+    tell_value(answer, 0, &mut item, written)
 }
 
 // What the mending call says.
-pub fn tell_mend(a: Written, item: &mut u32, size: &mut usize) -> u32
-    ensures { MendTold (saysWritten a) result item.new size.new }
+pub fn tell_mend(answer: Result<usize, Fault>, item: &mut u32, size: &mut usize) -> u32
+    ensures { MendTold (saysValue answer) result item.new size.new }
 {
-    match a {
-        Written::Refused(f) => {
-            *size = 0;
-            tell_fault(f, item)
-        }
-        Written::Length(n) => {
-            *size = n;
-            tell_fault(no_fault(), item)
-        }
-    }
+    tell_value(answer, 0, item, size)
 }

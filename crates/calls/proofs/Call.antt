@@ -8,12 +8,11 @@ use Rattle.finite.specs.Bounded.{decide}
 use borrow.Author.Tests.{le-leb, lt-leb, leb-false, lt-ltb, le-ltb, ltb-false}
 use Rattle.sheet.specs.Table.{places_of}
 use Rattle.sheet.specs.Faults.{fault_of}
-use Rattle.sheet.specs.Told.{fault_at, no_fault, tell, plain, or_else, else_first, else_next}
-use Rattle.sheet.specs.declared.Fault.{Fault}
+use Rattle.sheet.specs.Told.{fault_at, no_fault, tell, plain, or_else, else_first, else_next, Told}
 use Rattle.calls.specs.Call.{next_fault, place_fault, row_fault}
 
 -- What a chain of tests knows that stops at the first fault.
-module _ (lower : Fault) (found : Bool) (k : ℕ) where
+module _ (lower : Told) (found : Bool) (k : ℕ) where
   pub lower_told : ¬ (lower.number ≡ 0) → next_fault lower found k ≡ lower
   unfolding next_fault
   lower_told there = else_first lower _ there
@@ -26,17 +25,17 @@ module _ (lower : Fault) (found : Bool) (k : ℕ) where
   unfolding next_fault
   none_told clear here = else_next lower _ clear ∙ ap (λ (b : Bool). tell k (plain b)) here
 
-pub told_none : (lower : Fault) (found : Bool) (k : ℕ) → 0 < k → (next_fault lower found k).number ≡ 0 → (lower.number ≡ 0) × (found ≡ false)
+pub told_none : (lower : Told) (found : Bool) (k : ℕ) → 0 < k → (next_fault lower found k).number ≡ 0 → (lower.number ≡ 0) × (found ≡ false)
 told_none lower found k l e =
     let clear : lower.number ≡ 0 =
     ⊎_elim
     (λ z. z)
-    (λ there. absurd (omega (arith, ap (λ (f : Fault). f.number) (lower_told lower found k (λ z. omega arith)))))
+    (λ there. absurd (omega (arith, ap (λ (f : Told). f.number) (lower_told lower found k (λ z. omega arith)))))
     (eq-zero-or-pos lower.number)
     in
     let absent : found ≡ false =
     ⊎_elim
-    (λ t. absurd (omega (arith, ap (λ (f : Fault). f.number) (here_told lower found k clear (is_true found t)))))
+    (λ t. absurd (omega (arith, ap (λ (f : Told). f.number) (here_told lower found k clear (is_true found t)))))
     (λ t. is_false found t)
     (decide found)
     in
@@ -61,7 +60,7 @@ module _ (s : List ℕ) (p : ℕ) where
       let both = told_none (fault_of s) (leb (places_of s) p) 12 (omega arith) e in
       (both.0, leb-false (places_of s) p both.1)
 
-module _ (lower : Fault) (row : List ℕ) (needed : ℕ) where
+module _ (lower : Told) (row : List ℕ) (needed : ℕ) where
   pub lower_first : ¬ (lower.number ≡ 0) → row_fault lower row needed ≡ lower
   unfolding row_fault
   lower_first some = lower_told _ _ _ some

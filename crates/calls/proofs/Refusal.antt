@@ -1,53 +1,43 @@
--- Each link of a chain of tests agrees with the call's fault.
-use Rattle.std.specs.Prelude.{ℕ, ◌<◌, Bool, true, false, List, ◌≡◌, refl, leb, length}
-use Rattle.std.proofs.Common.{eq-zero-or-pos, arith, ⊎_elim, sym, ap, subst, ◌∙◌}
-use Rattle.std.proofs.Math.Path.{ap₂}
+-- Each link of a chain of tests agrees with the call's fault: the fault that a test finds is told where the lower tests found none, and is handed on.
+use Rattle.std.specs.Prelude.{ℕ, ◌<◌, Bool, false, List, ◌≡◌, leb, length}
+use Rattle.std.proofs.Common.{refl, sym, ap, ◌∙◌}
 use Rattle.std.proofs.Math.Dec.{ltb}
+use Rattle.sheet.specs.Answered.{told, told_some}
 use Rattle.sheet.specs.Faults.{fault_of}
 use Rattle.sheet.specs.Table.{places_of}
-use Rattle.sheet.specs.Told.{fault_at, no_fault}
+use Rattle.sheet.specs.Told.{Told, no_fault, tell, plain, tell_none, plain_none, else_next}
 use Rattle.sheet.specs.declared.Fault.{Fault}
-use Rattle.layout.specs.Layout.{LayoutOf}
-use Rattle.fault.specs.declared.Examined.{Examined}
 use Rattle.calls.specs.Call.{next_fault, place_fault, row_fault}
-use Rattle.calls.proofs.Call.{lower_told, here_told, none_told, told_none}
-use Rattle.calls.specs.Refusal.{Next, FaultTold}
+use Rattle.calls.proofs.Call.{lower_told}
 
-module _ (e : Examined) (found : Bool) (k : ℕ) where
-  pub next_lower : ¬ (e.fault.number ≡ 0) → Next e found k e
-  next_lower there = record { fault = sym (lower_told e.fault found k there); layout = refl }
+-- a lower fault that was found is handed on
+pub handed_on : (f : Fault) (lower : Told) (found : Bool) (k : ℕ) → told f ≡ lower → told f ≡ next_fault lower found k
+handed_on f lower found k is =
+    is ∙ sym (lower_told lower found k (λ z. told_some f (ap (λ (t : Told). t.number) is ∙ z)))
 
-  module _ (clear : e.fault.number ≡ 0) (r : Examined) (same : r.layout ≡ e.layout) where
-    pub next_not : found ≡ false → r.fault ≡ no_fault → Next e found k r
-    next_not not told = record { fault = told ∙ sym (none_told e.fault found k clear not); layout = same }
+-- where the lower tests found none, the next decides
+pub next_decides : {t : Told} (lower : Told) (found : Bool) (k : ℕ) → no_fault ≡ lower → t ≡ tell k (plain found) → t ≡ next_fault lower found k
+unfolding next_fault
+next_decides lower found k clear is = is ∙ sym (else_next lower (tell k (plain found)) (ap (λ (t : Told). t.number) (sym clear)))
 
-    pub next_here : found ≡ true → r.fault ≡ fault_at k 0 → Next e found k r
-    next_here here told = record { fault = told ∙ sym (here_told e.fault found k clear here); layout = same }
+module _ (s : List ℕ) (p : ℕ) where
+  pub place_handed : (f : Fault) → told f ≡ fault_of s → told f ≡ place_fault s p
+  unfolding place_fault
+  place_handed f is = handed_on f (fault_of s) (leb (places_of s) p) 12 is
 
--- a lower fault decides, and where there is none two tests that say the same tell the same
-next_agrees : (lower : Fault) (a b : Bool) (k : ℕ) → (lower.number ≡ 0 → a ≡ b) → next_fault lower a k ≡ next_fault lower b k
-next_agrees lower a b k same =
-    ⊎_elim
-    (λ clear. ap (λ (x : Bool). next_fault lower x k) (same clear))
-    (λ there. let some : ¬ (lower.number ≡ 0) = λ z. omega arith in lower_told lower a k some ∙ sym (lower_told lower b k some))
-    (eq-zero-or-pos lower.number)
+  pub place_decides : {t : Told} → no_fault ≡ fault_of s → t ≡ tell 12 (plain (leb (places_of s) p)) → t ≡ place_fault s p
+  unfolding place_fault
+  place_decides clear is = next_decides (fault_of s) (leb (places_of s) p) 12 clear is
 
-module _ (s : List ℕ) (lower : Fault) (e : Examined) (before : FaultTold s lower e) where
-  -- one link, by a test on the sheet that the test on its layout agrees with
-  link : (a b : Bool) (k : ℕ) (r : Examined) → 0 < k → (LayoutOf s e.layout → a ≡ b) → Next e a k r → FaultTold s (next_fault lower b k) r
-  link a b k r l same next =
-      record {
-        told = next.fault ∙ ap (λ (f : Fault). next_fault f a k) before.told ∙ next_agrees lower a b k (λ clear. same (before.laid clear));
-        laid = λ clear. subst (LayoutOf s) (sym next.layout) (before.laid (told_none lower b k l clear).0);
-      }
-
-  pub row_link : (row : List ℕ) (have needed : ℕ) (due : ℕ) (r : Examined) → have ≡ length row → (LayoutOf s e.layout → needed ≡ due) → Next e (ltb have needed) 13 r
-      → FaultTold s (row_fault lower row due) r
+module _ (lower : Told) (row : List ℕ) (needed : ℕ) where
+  pub row_handed : (f : Fault) → told f ≡ lower → told f ≡ row_fault lower row needed
   unfolding row_fault
-  row_link row have needed due r is same next =
-      link (ltb have needed) (ltb (length row) due) 13 r (omega arith) (λ l. ap₂ ltb is (same l)) next
+  row_handed f is = handed_on f lower (ltb (length row) needed) 13 is
 
-pub place_link : (s : List ℕ) (e : Examined) (p : ℕ) (r : Examined) → FaultTold s (fault_of s) e → Next e (leb e.layout.places p) 12 r → FaultTold s (place_fault s p) r
-unfolding place_fault
-place_link s e p r before next =
-    link s (fault_of s) e before (leb e.layout.places p) (leb (places_of s) p) 12 r (omega arith) (λ l. ap (λ (n : ℕ). leb n p) l.places) next
+  pub row_decides : {t : Told} → no_fault ≡ lower → t ≡ tell 13 (plain (ltb (length row) needed)) → t ≡ row_fault lower row needed
+  unfolding row_fault
+  row_decides clear is = next_decides lower (ltb (length row) needed) 13 clear is
+
+-- a test that finds no fault says no
+pub untold : (k : ℕ) (b : Bool) → 0 < k → no_fault ≡ tell k (plain b) → b ≡ false
+untold k b l is = plain_none b (tell_none k (plain b) l is refl)

@@ -1,48 +1,32 @@
-// The chain of faults of a call, one link after another: the sheet's own, then a place's, then each lent row's. A lower fault is handed on. And the answer of
-// the calls that write into a row.
+// The links of the chain of faults of a call that follow the sheet's own: 12, a place's, and 13, each lent row's. A caller asks one after another with
+// `?`, so that a lower fault is handed on.
 #![tactic(auto)]
 
-ghost use Rattle.std.specs.Prelude.{leb, ltb};
-ghost use Rattle.calls.specs.Refusal.{Next};
+ghost use Rattle.std.specs.Prelude.{◌≡◌, leb, ltb};
+ghost use Rattle.sheet.specs.Answered.{told_by};
+ghost use Rattle.sheet.specs.Table.{places_of};
+ghost use Rattle.sheet.specs.Told.{tell, plain};
 
-use fault::Examined;
 use ids::Place;
-use sheet::{Fault, no_fault, plain_fault};
-
-// The answer of a call that writes a sheet or a text into a lent row: how long it is.
-#[derive(Clone, Copy)]
-pub enum Written {
-    Refused(Fault),
-    Length(usize),
-}
-
-// The fault k after those that an examination found, if a test finds it. It has no item.
-fn next(e: Examined, found: bool, k: u32) -> Examined
-    ensures { Next e found k result }
-{
-    let lower = e.fault;
-    if lower.number != 0 {
-        return e;
-    }
-    let layout = e.layout;
-    if found {
-        let fault = plain_fault(k);
-        return Examined { fault, layout };
-    }
-    let fault = no_fault();
-    Examined { fault, layout }
-}
+use reader::Reader;
+use sheet::Fault;
 
 // 12: the place number isn't in the net.
-pub fn with_place(e: Examined, p: Place) -> Examined
-    ensures { Next e (leb e.layout.places p.0) 12 result }
+pub fn find_place(sheet: &Reader, p: Place) -> Result<(), Fault>
+    ensures { told_by result ≡ tell 12 (plain (leb (places_of sheet.now) p.0)) }
 {
-    next(e, e.layout.places <= p.0, 12)
+    if sheet.places() <= p.0 {
+        return Err(Fault::NoPlace);
+    }
+    Ok(())
 }
 
 // 13: a lent row of `have` entries is too short for those needed.
-pub fn with_row(e: Examined, have: usize, needed: usize) -> Examined
-    ensures { Next e (ltb have needed) 13 result }
+pub fn find_room(have: usize, needed: usize) -> Result<(), Fault>
+    ensures { told_by result ≡ tell 13 (plain (ltb have needed)) }
 {
-    next(e, have < needed, 13)
+    if have < needed {
+        return Err(Fault::ShortRow);
+    }
+    Ok(())
 }

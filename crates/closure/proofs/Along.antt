@@ -14,8 +14,10 @@ use Rattle.finite.specs.Last.{last, last_le, last_passes, last_above}
 use Rattle.ids.specs.Limits.{most_events, most_pairs}
 use Rattle.plan.specs.Net.{Plan}
 use Rattle.sorting.specs.Arranged.{Sorted}
-use Rattle.sorting.specs.Rows.{plan_by}
+use Rattle.sorting.specs.InRows.{plan_in}
 use Rattle.sorting.specs.Waiting.{starts_at}
+use Rattle.sorting.specs.declared.Sorting.{Sorting}
+use Rattle.sorting.specs.declared.pairs.Pairs.{Pairs}
 
 module _ (P : Plan) (u : ℕ) where
   -- D is said of pair i, or it is a pair of the event u from `at` on
@@ -27,38 +29,38 @@ module _ (P : Plan) (u : ℕ) where
     pub here : (k : ℕ) → at ≡ k + 1 → (k < P.pairs) × (P.earlier k ≡ u)
     pub carried : Carried P (or_own D at) rows
 
-module _ (events pairs : ℕ) (from to first next queue : List ℕ) (sorted : Sorted events pairs from to first next queue) (h : ℕ) (place : h < events) where
+module _ (p : Pairs) (s : Sorting) (sorted : Sorted (plan_in p) s) (h : ℕ) (place : h < p.events) where
   abbrev P : Plan
-  P = plan_by events pairs from to
+  P = plan_in p
 
   abbrev u : ℕ
-  u = get_or queue h 0
+  u = get_or s.queue h 0
 
-  pub event : u < events
+  pub event : u < p.events
   event = sorted.arranged.events h place
 
   pub event_few : u < most_events
-  event_few = omega (arith, event, sorted.within.few)
+  event_few = omega (arith, event, p.within.few)
 
   -- the link to the last pair of the event below m
-  linked : (m at : ℕ) → m ≤ pairs → at ≡ last m (starts_at P u) → (k : ℕ) → at ≡ k + 1 → (k < pairs) × (P.earlier k ≡ u)
+  linked : (m at : ℕ) → m ≤ p.count → at ≡ last m (starts_at P u) → (k : ℕ) → at ≡ k + 1 → (k < p.count) × (P.earlier k ≡ u)
   linked m at few is k e =
       let there : last m (starts_at P u) ≡ k + 1 = sym is ∙ e in
       (omega (arith, few, last_le (starts_at P u) m, there), eqb→eq (P.earlier k) u (last_passes (starts_at P u) m k there))
 
-  pub head_few : get_or first u 0 ≤ most_pairs
-  head_few = omega (arith, sorted.lists.heads u event_few, last_le (starts_at P u) pairs, sorted.within.most)
+  pub head_few : get_or s.lists.first u 0 ≤ most_pairs
+  head_few = omega (arith, sorted.lists.heads u event_few, last_le (starts_at P u) p.count, p.within.most)
 
   module _ (D : ℕ → Type 0) where
-    pub along_start : (rows : List ℕ) → Carried P D rows → Along P u D (get_or first u 0) rows
+    pub along_start : (rows : List ℕ) → Carried P D rows → Along P u D (get_or s.lists.first u 0) rows
     along_start rows c =
         let is = sorted.lists.heads u event_few in
         record {
-          here = linked pairs (get_or first u 0) (omega arith) is;
+          here = linked p.count (get_or s.lists.first u 0) (omega arith) is;
           carried = carried_less P c (λ i l.
               ⊎_elim
               (λ d. d)
-              (λ own. absurd (omega (arith, own.1, is, last_above (starts_at P u) pairs i l (yes_eqb own.0)))));
+              (λ own. absurd (omega (arith, own.1, is, last_above (starts_at P u) p.count i l (yes_eqb own.0)))));
         }
 
     module _ (at : ℕ) (rows : List ℕ) (along : Along P u D at rows) where
@@ -66,35 +68,35 @@ module _ (events pairs : ℕ) (from to first next queue : List ℕ) (sorted : So
       along_end E none all = carried_less P along.carried (λ i l e. ⊎_elim inl (λ own. inr (own, omega (arith, none))) (all i e))
 
       module _ (some : 0 < at) where
-        pub this : (at - 1 < pairs) × (P.earlier (at - 1) ≡ u)
+        pub this : (at - 1 < p.count) × (P.earlier (at - 1) ≡ u)
         this = along.here (at - 1) (omega (arith, some))
 
         pub this_few : at - 1 < most_pairs
-        this_few = omega (arith, this.0, sorted.within.most)
+        this_few = omega (arith, this.0, p.within.most)
 
         pub this_end : P.later (at - 1) < most_events
-        this_end = omega (arith, sorted.within.named.later (at - 1) this.0, sorted.within.few)
+        this_end = omega (arith, p.within.named.later (at - 1) this.0, p.within.few)
 
-        link : get_or next (at - 1) 0 ≡ last (at - 1) (starts_at P u)
+        link : get_or s.lists.next (at - 1) 0 ≡ last (at - 1) (starts_at P u)
         link = sorted.lists.links (at - 1) this.0 ∙ ap (λ (x : ℕ). last (at - 1) (starts_at P x)) this.1
 
         -- the next pair of the list is an earlier one
-        pub along_less : get_or next (at - 1) 0 < at
+        pub along_less : get_or s.lists.next (at - 1) 0 < at
         along_less = omega (arith, some, link, last_le (starts_at P u) (at - 1))
 
-        pub along_more : {new : List ℕ} → ((i : ℕ) → i < pairs → P.later i ≡ P.earlier (at - 1) → D i)
-            → RowCarried rows new (P.earlier (at - 1)) (P.later (at - 1)) → Along P u D (get_or next (at - 1) 0) new
+        pub along_more : {new : List ℕ} → ((i : ℕ) → i < p.count → P.later i ≡ P.earlier (at - 1) → D i)
+            → RowCarried rows new (P.earlier (at - 1)) (P.later (at - 1)) → Along P u D (get_or s.lists.next (at - 1) 0) new
         along_more whole row =
             record {
-              here = linked (at - 1) (get_or next (at - 1) 0) (omega (arith, this.0)) link;
+              here = linked (at - 1) (get_or s.lists.next (at - 1) 0) (omega (arith, this.0)) link;
               carried =
                   carried_less
                   P
-                  (carried_more P sorted.within.named sorted.within.few (at - 1) along.carried this.0 (λ i l e. inl (whole i l e)) row)
+                  (carried_more P p.within.named p.within.few (at - 1) along.carried this.0 (λ i l e. inl (whole i l e)) row)
                   (λ i l. ⊎_elim (λ d. inr (inl d)) (λ own. own-more i own.0 own.1));
             }
           where
-            own-more : (i : ℕ) → P.earlier i ≡ u → get_or next (at - 1) 0 ≤ i → (i ≡ at - 1) ⊎ or_own P u D at i
+            own-more : (i : ℕ) → P.earlier i ≡ u → get_or s.lists.next (at - 1) 0 ≤ i → (i ≡ at - 1) ⊎ or_own P u D at i
             own-more i e l =
                 ⊎_elim
                 (λ same. inl (eqb→eq i (at - 1) same))

@@ -9,7 +9,7 @@ use Rattle.plan.proofs.Closure.{before_test, says_before}
 use Rattle.plan.specs.Net.{Plan}
 use Rattle.plan.specs.Order.{Before, pair, chain, before}
 use Rattle.sorting.specs.Rows.{has_cycle}
-use Rattle.closure.specs.Turned.{turned}
+use Rattle.sorting.specs.Turned.{turned}
 
 module _ (P : Plan) where
   turn : {u v : ℕ} → Before P u v → Before (turned P) v u

@@ -3,4 +3,3 @@ pub mod Between
 pub mod PlanRows
 pub mod Carried
 pub mod InOrder
-pub mod Turned

@@ -1,6 +1,7 @@
 // "Before" in rows of marks, worked out pair by pair: events are taken in an order in which what is before comes first, and each pair has the row of
 // its earlier event joined into that of its later one once. Which pairs are skeleton pairs.
-// The numbers of events and pairs and the row `from` say which plan it is; they aren't read.
+// A list of pairs is walked by its links: an iterator would be no plainer.
+// Bytes and numbers of pairs are cast to `usize`: with `usize::from` the proofs of these loops didn't close, since an invariant then speaks of a call's result.
 #![tactic(auto)]
 
 ghost use Rattle.std.specs.Prelude.{◌+◌, ◌<◌, not, ◌≡◌};
@@ -10,9 +11,10 @@ ghost use Rattle.closure.specs.PlanRows.{Predecessors};
 ghost use Rattle.ids.specs.Limits.{most_events};
 ghost use Rattle.marks.specs.Marks.{meeting};
 ghost use Rattle.sorting.specs.Arranged.{Sorted};
-ghost use Rattle.sorting.specs.Rows.{plan_by};
+ghost use Rattle.sorting.specs.InRows.{plan_in};
 
-use ids::{EVENTS, Event, PAIRS, ROWS};
+use ids::{Event, ROWS};
+use sorting::{Pairs, Sorting};
 
 // Joins the row of one event, and the event itself, into the row of another.
 fn carry(rows: &mut [u32; ROWS], one: Event, other: Event)
@@ -24,48 +26,29 @@ fn carry(rows: &mut [u32; ROWS], one: Event, other: Event)
 }
 
 // What is before the event at h in the queue is before those that it has a pair to, and so is the event.
-fn carry_pairs(
-    events: usize,
-    pairs: usize,
-    from: &[u8; PAIRS],
-    to: &[u8; PAIRS],
-    first: &[u16; EVENTS],
-    next: &[u16; PAIRS],
-    queue: &[u8; EVENTS],
-    h: usize,
-    rows: &mut [u32; ROWS],
-)
-    requires sorted { Sorted events pairs from.now to.now first.now next.now queue.now × (h < events) }
-    requires carried_to { CarriedTo (plan_by events pairs from.now to.now) queue.now h rows.old }
-    ensures { CarriedTo (plan_by events pairs from.now to.now) queue.now (h + 1) rows.new }
+fn carry_pairs(pairs: &Pairs, sorting: &Sorting, h: usize, rows: &mut [u32; ROWS])
+    requires sorted { Sorted (plan_in pairs.now) sorting.now × (h < pairs.now.events) }
+    requires carried_to { CarriedTo (plan_in pairs.now) sorting.now.queue h rows.old }
+    ensures { CarriedTo (plan_in pairs.now) sorting.now.queue (h + 1) rows.new }
 {
-    let u = queue[h] as usize;
-    let mut at = first[u] as usize;
+    let u = sorting.queue[h] as usize;
+    let mut at = sorting.lists.first[u] as usize;
     while at > 0 {
         let i = at - 1;
-        let v = to[i] as usize;
+        let v = pairs.to[i] as usize;
         carry(rows, Event(u), Event(v));
-        at = next[i] as usize;
+        at = sorting.lists.next[i] as usize;
     }
 }
 
 // Rows of what is before each event, from rows that mark no more than that.
-pub fn close(
-    events: usize,
-    pairs: usize,
-    from: &[u8; PAIRS],
-    to: &[u8; PAIRS],
-    first: &[u16; EVENTS],
-    next: &[u16; PAIRS],
-    queue: &[u8; EVENTS],
-    rows: &mut [u32; ROWS],
-)
-    requires sorted { Sorted events pairs from.now to.now first.now next.now queue.now }
-    requires within { Within (plan_by events pairs from.now to.now) rows.old }
-    ensures { Predecessors (plan_by events pairs from.now to.now) rows.new }
+pub fn close(pairs: &Pairs, sorting: &Sorting, rows: &mut [u32; ROWS])
+    requires sorted { Sorted (plan_in pairs.now) sorting.now }
+    requires within { Within (plan_in pairs.now) rows.old }
+    ensures { Predecessors (plan_in pairs.now) rows.new }
 {
-    for h in 0..events {
-        carry_pairs(events, pairs, from, to, first, next, queue, h, rows);
+    for h in 0..pairs.events {
+        carry_pairs(pairs, sorting, h, rows);
     }
 }
 

@@ -1,5 +1,5 @@
 -- The proof of demand 2.
-use Rattle.std.specs.Prelude.{ℕ, ◌≤◌, ◌<◌, Bool, true, false, ◌&&◌, ◌↔◌, ◌≡◌, refl, T, eqb, ltb, ℤ, length}
+use Rattle.std.specs.Prelude.{ℕ, ◌≤◌, ◌<◌, Bool, true, false, ◌&&◌, ◌↔◌, ◌≡◌, refl, T, eqb, ltb, ℤ, length, Result, Ok, Err}
 use Rattle.std.proofs.Common.{eq-zero-or-pos, arith, true≢false, ⊎_elim, sym, subst, ◌∙◌, lt-ltb, ltb→lt}
 use Rattle.std.proofs.Math.Bool.{cond}
 use mathlib.Core.List.{List}
@@ -26,31 +26,27 @@ use Rattle.calls.specs.Overwritten.{over_first, at_none}
 use Rattle.place.specs.Place.{spare_at}
 use Rattle.handing.specs.Handed.{done_mark}
 use Rattle.calls.specs.Said.{Said, answer, said_answer, refusal_apart, answer_same}
-use Rattle.flowcheck.specs.declared.Checked.{Checked}
-use Rattle.flowcheck.specs.declared.Checked.TheVariants.{Valid, Invalid, Refused as Declined}
+use Rattle.sheet.specs.declared.Fault.{Fault}
 use Rattle.flowcheck.specs.Checked.{check_says, says as saysChecked}
-use Rattle.place_judgement.specs.declared.Judgement.{Judgement}
-use Rattle.place_judgement.specs.declared.Judgement.TheVariants.{Refused, Spare}
 use Rattle.place_judgement.specs.Judgement.{says, judge_fault, judgement_says, marks_after}
 use Rattle.demands.proofs.Whole.{plan_tells, till_tells}
 use Rattle.demands.specs.Demand2.{done_in, TellsRuns, TellsShort, Published, Demand2}
 
 -- ---- the proof
 
-abbrev is_valid : Checked → Bool
-is_valid (Declined f) = false
-is_valid Valid = true
-is_valid Invalid = false
+abbrev is_valid : Result Bool Fault → Bool
+is_valid (Err f) = false
+is_valid (Ok b) = b
 
 -- an answer by what it says
-said_spare : (r : Judgement) (x : ℤ) → says r ≡ answer x → r ≡ Spare x
-said_spare (Refused f) x e = absurd (refusal_apart f x e)
-said_spare (Spare z) x e = ap Spare (answer_same z x e)
+said_spare : (r : Result ℤ Fault) (x : ℤ) → says r ≡ answer x → r ≡ Ok x
+said_spare (Err f) x e = absurd (refusal_apart _ x e)
+said_spare (Ok z) x e = ap Ok (answer_same z x e)
 
-yes_by : (r : Checked) (b : Bool) → saysChecked r ≡ answer b → (r ≡ Valid) ↔ T b
-yes_by (Declined f) b e = absurd (none-ne-some b (ap (λ (said : Said Bool). said.values) e))
-yes_by Valid b e = (λ _. subst T (some-injective true b (ap (λ (said : Said Bool). said.values) e)) tt, λ _. refl)
-yes_by Invalid b e =
+yes_by : (r : Result Bool Fault) (b : Bool) → saysChecked r ≡ answer b → (r ≡ Ok true) ↔ T b
+yes_by (Err f) b e = absurd (none-ne-some b (ap (λ (said : Said Bool). said.values) e))
+yes_by (Ok true) b e = (λ _. subst T (some-injective true b (ap (λ (said : Said Bool). said.values) e)) tt, λ _. refl)
+yes_by (Ok false) b e =
     let is = some-injective false b (ap (λ (said : Said Bool). said.values) e) in
     (λ same. absurd (true≢false (sym (ap is_valid same))), λ t. absurd (subst T (sym is) t))
 
@@ -58,7 +54,7 @@ one_is : (b : Bool) → T (eqb (cond {A = ℕ} b 1 0) 1) ↔ T b
 one_is true = (λ t. tt, λ t. tt)
 one_is false = (λ t. t, λ t. absurd t)
 
-module _ (s : List ℕ) (p : ℕ) (flow marks : List ℕ) (r : Judgement) (told : says r ≡ judgement_says s p flow marks) (none : (judge_fault s p flow marks).number ≡ 0) where
+module _ (s : List ℕ) (p : ℕ) (flow marks : List ℕ) (r : Result ℤ Fault) (told : says r ≡ judgement_says s p flow marks) (none : (judge_fault s p flow marks).number ≡ 0) where
   known : ((flow_fault s p flow).number ≡ 0) × (events_of s ≤ length marks)
   unfolding judge_fault
   known = row_known (flow_fault s p flow) marks (events_of s) none
@@ -67,7 +63,7 @@ module _ (s : List ℕ) (p : ℕ) (flow marks : List ℕ) (r : Judgement) (told 
   unfolding flow_fault
   taken = (place_known s p (row_known (place_fault s p) flow (flow_length s) known.0).0).0
 
-  told_spare : r ≡ Spare (spare_at s p)
+  told_spare : r ≡ Ok (spare_at s p)
   unfolding judgement_says
   told_spare = said_spare r (spare_at s p) (told ∙ said_answer (judge_fault s p flow marks) (spare_at s p) none)
 
@@ -122,8 +118,8 @@ module _ (s : List ℕ) (p : ℕ) (flow marks : List ℕ) (r : Judgement) (told 
             (smallest_known (short_some e));
       }
 
-check_passes : (s : List ℕ) (p : ℕ) (row : List ℕ) (r : Checked) → saysChecked r ≡ check_says s p row → (flow_fault s p row).number ≡ 0
-    → (r ≡ Valid) ↔ T (valid (net_of s) (plan_of s) p (flow_of row))
+check_passes : (s : List ℕ) (p : ℕ) (row : List ℕ) (r : Result Bool Fault) → saysChecked r ≡ check_says s p row → (flow_fault s p row).number ≡ 0
+    → (r ≡ Ok true) ↔ T (valid (net_of s) (plan_of s) p (flow_of row))
 unfolding check_says
 check_passes s p row r told none = yes_by r _ (told ∙ said_answer (flow_fault s p row) _ none)
 

@@ -1,5 +1,5 @@
 -- Each count that is returned is the missing count of the definition, and C gets the same.
-use Rattle.std.specs.Prelude.{ℕ, ◌<◌, ◌≡◌, ℤ, neg_ℤ}
+use Rattle.std.specs.Prelude.{ℕ, ◌<◌, ◌≡◌, ℤ, neg_ℤ, Ok}
 use Rattle.std.proofs.Common.{arith, sym, subst, ◌∙◌}
 use mathlib.Core.List.{List}
 use Rattle.std.proofs.Math.Path.{ap}
@@ -17,7 +17,6 @@ use Rattle.summary.specs.declared.Totals.{Totals}
 use Rattle.summary.specs.declared.Verdict.TheVariants.{Short}
 use Rattle.summary.specs.Laws.{VerdictSays}
 use Rattle.summary.proofs.Laws.{verdict_says}
-use Rattle.plan_judgement.specs.declared.Answer.TheVariants.{Judged}
 use Rattle.plan_judgement.specs.Judgement.{plan_fault, plan_says, row_of, says as saysPlan}
 use Rattle.answers.specs.ForC.{PlanTold}
 use Rattle.reedanchor.specs.Laws.{taken}
@@ -31,7 +30,7 @@ module _ (s : List ℕ) where
       ap (λ (r : List ℕ). get_or r p 0) (sym (at_none (plan_fault s row).number (overwritten (missing_at s) (places_of s) row) row clear))
       ∙ over_first (missing_at s) (places_of s) row p place (omega (arith, long))
 
-  verdict_is : (p : Place) (m : ℕ) (row : List ℕ) (totals : Totals) → saysPlan (Judged totals) ≡ plan_says s row → totals.verdict ≡ Short p m → missing_at s p.0 ≡ m
+  verdict_is : (p : Place) (m : ℕ) (row : List ℕ) (totals : Totals) → saysPlan (Ok totals) ≡ plan_says s row → totals.verdict ≡ Short p m → missing_at s p.0 ≡ m
   verdict_is p m row totals told short =
       (subst (VerdictSays (missing_at s) (places_of s)) short (verdict_says (missing_at s) (places_of s) totals.verdict (totals_are s row totals told))).1
 

@@ -1,5 +1,5 @@
 -- What the plan judgement and the till server's call tell is the published verdict on the whole plan.
-use Rattle.std.specs.Prelude.{ℕ, ◌+◌, List, ◌↔◌, ◌≡◌, refl, T}
+use Rattle.std.specs.Prelude.{ℕ, ◌+◌, List, ◌↔◌, ◌≡◌, refl, T, Result, Ok, Err}
 use Rattle.std.proofs.Common.{eq-zero-or-pos, arith, ⊎_elim, sym, ap, ◌∙◌}
 use Rattle.std.proofs.Math.Option.{none-ne-some}
 use Rattle.plan.specs.Prefix.{runs}
@@ -14,13 +14,13 @@ use Rattle.sheet.proofs.Faultless.{faultless}
 use Rattle.calls.proofs.Call.{row_known}
 use Rattle.calls.specs.Said.{Said, said_answer}
 use Rattle.place.specs.Place.{missing_at}
+use Rattle.sheet.specs.declared.Fault.{Fault}
+use Rattle.summary.specs.declared.Totals.{Totals}
 use Rattle.summary.specs.declared.Verdict.{Verdict}
 use Rattle.summary.specs.declared.Verdict.TheVariants.{Runs, Short}
 use Rattle.summary.specs.Summary.{PlanValues, first_short, short_number, verdict_number, values_of}
 use Rattle.summary.specs.Laws.{FirstIn}
 use Rattle.summary.proofs.Laws.{runs_number, short_number_lem}
-use Rattle.plan_judgement.specs.declared.Answer.{Answer}
-use Rattle.plan_judgement.specs.declared.Answer.TheVariants.{Refused, Judged}
 use Rattle.plan_judgement.specs.Judgement.{plan_fault, plan_values, plan_says, says as saysPlan}
 use Rattle.plan_judgement.specs.Laws.{runs_told}
 use Rattle.till.specs.Till.{till_answer}
@@ -88,12 +88,12 @@ number_short (Short q m) p = (
 )
 
 -- The plan judgement tells it,
-answer_tells : (s row : List ℕ) (r : Answer) → saysPlan r ≡ plan_says s row → (plan_fault s row).number ≡ 0 → (fault_of s).number ≡ 0 → TellsVerdict s (SaysRuns r) (SaysShort r)
+answer_tells : (s row : List ℕ) (r : Result Totals Fault) → saysPlan r ≡ plan_says s row → (plan_fault s row).number ≡ 0 → (fault_of s).number ≡ 0 → TellsVerdict s (SaysRuns r) (SaysShort r)
 unfolding plan_says
-answer_tells s row (Refused f) told clear taken =
+answer_tells s row (Err f) told clear taken =
     absurd
     (none-ne-some (plan_values s) (ap (λ (said : Said PlanValues). said.values) (told ∙ said_answer (plan_fault s row) (plan_values s) clear)))
-answer_tells s row (Judged totals) told clear taken =
+answer_tells s row (Ok totals) told clear taken =
     let is = (totals_are s row totals told).0 in
     let v = totals.verdict in
     tells
@@ -102,7 +102,7 @@ answer_tells s row (Judged totals) told clear taken =
     (λ e. sym is ∙ (number_runs v).0 e, λ e. (number_runs v).1 (is ∙ e))
     (λ p. (λ h. sym is ∙ (number_short v p).0 h, λ e. (number_short v p).1 (is ∙ e)))
 
-pub plan_tells : (s row : List ℕ) (r : Answer) → saysPlan r ≡ plan_says s row → (plan_fault s row).number ≡ 0 → TellsVerdict s (SaysRuns r) (SaysShort r)
+pub plan_tells : (s row : List ℕ) (r : Result Totals Fault) → saysPlan r ≡ plan_says s row → (plan_fault s row).number ≡ 0 → TellsVerdict s (SaysRuns r) (SaysShort r)
 unfolding plan_fault
 plan_tells s row r told clear =
     answer_tells s row r told clear (row_known (fault_of s) row (places_of s) clear).0

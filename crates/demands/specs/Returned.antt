@@ -1,5 +1,5 @@
 -- The counts that the calls return, and what they are: each is the missing count or the spare count of its place.
-use Rattle.std.specs.Prelude.{ℕ, ◌<◌, ◌≡◌, refl, ℤ, pos, neg_ℤ}
+use Rattle.std.specs.Prelude.{ℕ, ◌<◌, ◌≡◌, refl, ℤ, pos, neg_ℤ, Result, Ok}
 use Rattle.std.proofs.Common.{sym, ◌∙◌}
 use mathlib.Core.List.{List}
 use Rattle.std.proofs.Math.Option.{some}
@@ -9,6 +9,7 @@ use Rattle.plan.specs.Prefix.{above0}
 use Rattle.sheet.specs.Faults.{fault_of}
 use Rattle.sheet.specs.Table.{places_of, events_of}
 use Rattle.sheet.specs.declared.Fault.{Fault}
+use Rattle.sheet.specs.Told.{Told}
 use Rattle.calls.specs.Call.{place_fault}
 use Rattle.calls.proofs.Call.{row_known, place_known}
 use Rattle.calls.specs.FlowRow.{flow_fault, flow_length}
@@ -18,10 +19,7 @@ use Rattle.place.specs.Place.{missing_at, spare_at}
 use Rattle.summary.specs.declared.Totals.{Totals}
 use Rattle.summary.specs.declared.Verdict.TheVariants.{Short}
 use Rattle.summary.specs.Summary.{VerdictOf, PlanValues, values_in, values_of}
-use Rattle.place_judgement.specs.declared.Judgement.{Judgement}
-use Rattle.place_judgement.specs.declared.Judgement.TheVariants.{Spare}
 use Rattle.place_judgement.specs.Judgement.{says, judge_fault, judgement_says}
-use Rattle.plan_judgement.specs.declared.Answer.TheVariants.{Judged}
 use Rattle.plan_judgement.specs.Judgement.{plan_fault, plan_values, plan_says, row_of, says as saysPlan}
 use Rattle.answers.specs.ForC.{PlaceTold, value_or}
 
@@ -34,7 +32,7 @@ Taken s = (fault_of s).number ≡ 0
 pub record SpareReturned (s : List ℕ) (p : ℕ) (z : ℤ) : Type 0 where
   pub flow : List ℕ
   pub marks : List ℕ
-  pub answer : Judgement
+  pub answer : Result ℤ Fault
   pub told : says answer ≡ judgement_says s p flow marks
   pub values : (says answer).values ≡ some z
 
@@ -45,11 +43,11 @@ pub data Returned (s : List ℕ) : ℕ → ℕ → Type 0 where
   -- and equally the place's number in the plan judgement's row,
   by_row : (p : ℕ) (row : List ℕ) → (plan_fault s row).number ≡ 0 → p < places_of s → Returned s p (get_or (row_of s row) p 0)
   -- and, for the first short place, the count in its verdict
-  by_verdict : (p : Place) (m : ℕ) (row : List ℕ) (totals : Totals) → saysPlan (Judged totals) ≡ plan_says s row → totals.verdict ≡ Short p m
+  by_verdict : (p : Place) (m : ℕ) (row : List ℕ) (totals : Totals) → saysPlan (Ok totals) ≡ plan_says s row → totals.verdict ≡ Short p m
       → Returned s p.0 m
 
 -- the totals that the plan judgement answers with have the values that are due
-pub totals_are : (s row : List ℕ) (totals : Totals) → saysPlan (Judged totals) ≡ plan_says s row → VerdictOf (missing_at s) (places_of s) totals.verdict
+pub totals_are : (s row : List ℕ) (totals : Totals) → saysPlan (Ok totals) ≡ plan_says s row → VerdictOf (missing_at s) (places_of s) totals.verdict
 unfolding plan_says plan_values values_of
 totals_are s row totals told =
     let all = values_said (plan_fault s row) (plan_values s) (values_in totals) (ap (λ (said : Said PlanValues). said.values) (sym told)) in
@@ -57,7 +55,7 @@ totals_are s row totals told =
 
 module _ (s : List ℕ) where
   module _ (p : ℕ) (z : ℤ) (given : SpareReturned s p z) where
-    fault : Fault
+    fault : Told
     fault = judge_fault s p given.flow given.marks
 
     due : (unless_refused fault (spare_at s p)).values ≡ some z
@@ -82,4 +80,4 @@ spare_in_c s p flow marks item z told =
     let clear = said_clear (judge_fault s p flow marks) (spare_at s p) (sym told.faulty.0) in
     let due = said_answer (judge_fault s p flow marks) (spare_at s p) clear in
     let is : z ≡ spare_at s p = told.count ∙ ap (λ (said : Said ℤ). value_or (pos 0) (λ (y : ℤ). y) said.values) due in
-    record { flow = flow; marks = marks; answer = Spare z; told = ap (λ (y : ℤ). answer y) is ∙ sym due; values = refl }
+    record { flow = flow; marks = marks; answer = Ok z; told = ap (λ (y : ℤ). answer y) is ∙ sym due; values = refl }

@@ -1,12 +1,12 @@
 -- What demand 2 says of the verdict on a whole plan, by whichever call it is told.
-use Rattle.std.specs.Prelude.{ℕ, ◌<◌, List, ◌↔◌, ◌≡◌, T}
+use Rattle.std.specs.Prelude.{ℕ, ◌<◌, List, ◌↔◌, ◌≡◌, T, Result, Ok, Err}
 use Rattle.plan.specs.Cut.{Executable, Execution}
 use Rattle.plan.specs.Flow.{Flow, valid}
 use Rattle.sheet.specs.Table.{places_of}
 use Rattle.sheet.specs.Items.{net_of, plan_of}
+use Rattle.sheet.specs.declared.Fault.{Fault}
+use Rattle.summary.specs.declared.Totals.{Totals}
 use Rattle.summary.specs.declared.Verdict.TheVariants.{Runs, Short}
-use Rattle.plan_judgement.specs.declared.Answer.{Answer}
-use Rattle.plan_judgement.specs.declared.Answer.TheVariants.{Refused, Judged}
 
 -- The plan of the sheet s doesn't run at its place p, and does at every place before it.
 pub record FirstShort (s : List ℕ) (p : ℕ) : Type 0 where
@@ -26,10 +26,10 @@ pub record TellsVerdict (s : List ℕ) (yes : Type 0) (no : ℕ → Type 0) : Ty
   pub no_places : places_of s ≡ 0 → yes
 
 -- What the plan judgement's answer says.
-abbrev pub SaysRuns : Answer → Type 0
-SaysRuns (Refused f) = ⊥
-SaysRuns (Judged totals) = totals.verdict ≡ Runs
+abbrev pub SaysRuns : Result Totals Fault → Type 0
+SaysRuns (Err f) = ⊥
+SaysRuns (Ok totals) = totals.verdict ≡ Runs
 
-abbrev pub SaysShort : Answer → ℕ → Type 0
-SaysShort (Refused f) p = ⊥
-SaysShort (Judged totals) p = (m : ℕ) × (totals.verdict ≡ Short (record { 0 = p }) m)
+abbrev pub SaysShort : Result Totals Fault → ℕ → Type 0
+SaysShort (Err f) p = ⊥
+SaysShort (Ok totals) p = (m : ℕ) × (totals.verdict ≡ Short (record { 0 = p }) m)

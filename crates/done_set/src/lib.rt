@@ -15,10 +15,7 @@ fn done_mark(set: &[u32; WORDS], m: u32, v: Event) -> u8
     requires { v.0 < most_events }
     ensures { result ≡ mark_in m (members set.now) v.0 }
 {
-    if m == 0 {
-        return 0;
-    }
-    if is_marked(set, 0, v.0) { 1 } else { 0 }
+    u8::from(m > 0 && is_marked(set, 0, v.0))
 }
 
 // Marks the first n events, with m tokens missing.
@@ -26,6 +23,7 @@ pub fn write_marks(set: &[u32; WORDS], m: u32, marks: &mut [u8], n: usize)
     requires { (n ≤ most_events) × (n ≤ length marks.old) }
     ensures { Filled (mark_in m (members set.now)) n marks.old marks.new }
 {
+    // By number, since the number is the event.
     for v in 0..n {
         marks[v] = done_mark(set, m, Event(v));
     }

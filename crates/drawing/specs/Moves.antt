@@ -3,7 +3,7 @@ use Rattle.std.specs.Prelude.{ℕ, ◌+◌, ◌≤◌, ◌<◌, min, List, ◌�
 use Rattle.std.proofs.Common.{le_refl, le_trans, ◌∙◌}
 use Rattle.ids.specs.Limits.{most_events}
 use Rattle.marks.specs.Marks.{marked}
-use Rattle.tokenflow.specs.Rows.{Rows, Drawn, rows}
+use Rattle.tokenflow.specs.Rows.{Rows, Drawn}
 use Rattle.tokenflow.specs.Flowing.{Flowing, Kept, lacking, kept_none, kept_then}
 
 -- Rows of what is before each event mark nothing but events.
@@ -15,13 +15,6 @@ pub record Moved (n : ℕ) (pred : List ℕ) (r r' : Rows) : Type 0 where
   pub flows : Flowing n pred r'
   pub kept : Kept n r r'
   pub lacks : lacking n r' ≤ lacking n r
-
--- Rows that are lent hold a tokenflow, in a `requires`; a call moves tokens in them, in an `ensures`.
-abbrev pub Holds : ℕ → List ℕ → List ℕ → List ℕ → List ℕ → List ℕ → Type 0
-Holds n pred amount fed free share = Flowing n pred (rows amount fed free share)
-
-abbrev pub Moves : ℕ → List ℕ → List ℕ → List ℕ → List ℕ → List ℕ → List ℕ → List ℕ → List ℕ → List ℕ → Type 0
-Moves n pred amount amount' fed fed' free free' share share' = Moved n pred (rows amount fed free share) (rows amount' fed' free' share')
 
 pub moved_none : (n : ℕ) (pred : List ℕ) (r : Rows) → Flowing n pred r → Moved n pred r r
 moved_none n pred r f = record { size = refl; flows = f; kept = kept_none n r; lacks = le_refl (lacking n r) }

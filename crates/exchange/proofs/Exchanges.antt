@@ -12,20 +12,7 @@ use Rattle.finite.specs.Sum.{on_yes, on_no, on_le}
 use Rattle.marks.specs.Marks.{marked}
 use Rattle.tokenflow.specs.Rows.{Rows, Drawn, Exact, MayDraw}
 use Rattle.tokenflow.specs.Flowing.{Flowing, kept_then, kept_back, drawn_keeps, drawn_flows, given_back_flows, drawn_lacking, may_draw}
-use Rattle.drawing.specs.Moves.{moved_none}
 use Rattle.exchange.specs.Exchange.{Exchanged}
-
-pub exchanged_none : {n : ℕ} {pred : List ℕ} {r : Rows} {u w v : ℕ} → Flowing n pred r → min (get_or r.free u 0) (get_or r.amount (v * 256 + w) 0) ≡ 0
-    → Exchanged n pred r r u w v 0
-exchanged_none f e =
-    record {
-      most = sym e;
-      moved = moved_none _ _ _ f;
-      same = refl;
-      freed = λ l. absurd (omega arith);
-      shares = λ b. refl;
-      others = λ a b l ne t. t;
-    }
 
 -- v has given back k of the tokens that it fed to w.
 module _ {n : ℕ} {pred : List ℕ} {r m : Rows} {u w v k : ℕ} (f : Flowing n pred r) (lu : u < n) (lw : w < n) (lv : v < n)

@@ -11,7 +11,7 @@ use Rattle.tokenflow.specs.Rows.{fed_by, Rows}
 use Rattle.tokenflow.specs.Flowing.{Flowing}
 use Rattle.search.specs.Trail.{◌!◌, Takers, Givers, takers_of, givers_of, FedBy, MetBy}
 use Rattle.exchange.specs.Exchange.{Exchanged}
-use Rattle.exchange.specs.Walk.{trail_rows, IsReady, Unready, ReadyOn, TakerPlace, NextGiver}
+use Rattle.exchange.specs.Walk.{trail_rows, IsReady, Unready, ReadyOn, NextGiver}
 
 module _ {n : ℕ} {pred queue origin via : List ℕ} {r : Rows} {u : ℕ} {row : List ℕ} {tail : ℕ} {met : List ℕ}
     (h : IsReady n pred (trail_rows queue origin via) r u row tail met) where
@@ -24,14 +24,6 @@ module _ {n : ℕ} {pred queue origin via : List ℕ} {r : Rows} {u : ℕ} {row 
   way : MetBy pred t g u
   unfolding t g
   way = h.0.met u h.1.giver
-
-  pub has_free : ¬ (get_or r.free u 0 ≡ 0)
-  has_free e = omega (arith, h.1.free)
-
-  pub has_place : TakerPlace n pred queue via u (via ! u)
-  unfolding t g
-  has_place =
-      record { here = refl; near = omega (arith, way.place, h.0.few); names = h.0.takers (via ! u) way.place; ahead = way.before }
 
   -- at the place by way of which u was met, a taker that lacks nothing
   module _ (at : ℕ) (here : at ≡ via ! u) (none : get_or r.share (queue ! at) 0 ≡ 0) where

@@ -1,13 +1,12 @@
 -- Walking back along the trail of a search: what stays true of it while givers are exchanged, and what a step does.
-use Rattle.std.specs.Prelude.{ℕ, ◌≤◌, ◌<◌, Bool, true, false, List, ◌⊎◌, ◌≡◌, T, get_or}
+use Rattle.std.specs.Prelude.{ℕ, ◌≤◌, ◌<◌, Bool, true, false, List, ◌⊎◌, ◌≡◌, T, get_or, Option, Some, None}
 use Rattle.ids.specs.Limits.{most_events}
+use Rattle.ids.specs.declared.Event.{Event}
 use Rattle.marks.specs.Marks.{marked}
 use Rattle.tokenflow.specs.Rows.{Rows}
 use Rattle.tokenflow.specs.Flowing.{lacking}
 use Rattle.search.specs.Row.{In}
 use Rattle.search.specs.Trail.{◌!◌, Takers, Givers, takers_of, givers_of, FedBy, MetBy}
-use Rattle.exchange.specs.declared.Giver.{Giver}
-use Rattle.exchange.specs.declared.Giver.TheVariants.{At, Nothing}
 use Rattle.exchange.specs.declared.Step.{Step}
 use Rattle.exchange.specs.declared.Step.TheVariants.{Drew, Stuck, On}
 
@@ -64,9 +63,9 @@ pub record NextGiver (n : ℕ) (origin via fed : List ℕ) (i w v : ℕ) : Type 
   pub feeds : T (marked fed v w)
 
 -- It is at a giver with the property P, or no event has it.
-abbrev pub TellsGiver : (ℕ → Type 0) → Giver → Type 0
-TellsGiver P (At v) = P v.0
-TellsGiver P Nothing = (v : ℕ) → P v → ⊥
+abbrev pub TellsGiver : (ℕ → Type 0) → Option Event → Type 0
+TellsGiver P (Some v) = P v.0
+TellsGiver P None = (v : ℕ) → P v → ⊥
 
 -- What a step from the giver u says: it drew tokens for a taker that lacked some; it is stuck, which no ready giver is; or it goes
 -- on at v, by way of an earlier place, and v is ready if u was.

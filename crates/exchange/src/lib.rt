@@ -5,103 +5,60 @@ ghost use Rattle.std.specs.Prelude.{◌<◌, ◌≤◌, T};
 ghost use Rattle.ids.specs.Limits.{most_events};
 ghost use Rattle.marks.specs.Marks.{marked};
 ghost use Rattle.last_mark.specs.Found.{Tells};
-ghost use Rattle.tokenflow.specs.Rows.{rows};
-ghost use Rattle.drawing.specs.Moves.{Holds, Moves};
+ghost use Rattle.tokenflow.specs.Flowing.{Flowing};
+ghost use Rattle.drawing.specs.Moves.{Moved};
 ghost use Rattle.exchange.specs.Exchange.{Exchanged};
 ghost use Rattle.exchange.specs.Walk.{trail_rows, TakerPlace, NextGiver, TellsGiver, Stepped, Walked};
 
-use drawing::{draw_most, least};
-use ids::{EVENTS, Event, ROWS};
-use last_mark::Found;
-use tokenflow::{draw, give_back};
+use drawing::draw_most;
+use ids::{Event, ROWS};
+use search::Trail;
+use tokenflow::Flow;
 
 // u feeds w in place of v, by all the tokens that u has free and v feeds. Returns how many.
-pub fn exchange(
-    pred: &[u32; ROWS],
-    amount: &mut [u32],
-    fed: &mut [u32; ROWS],
-    free: &mut [u32; EVENTS],
-    share: &mut [u32; EVENTS],
-    u: Event,
-    w: Event,
-    v: Event,
-    n: usize,
-) -> u32
-    requires holds { Holds n pred.now amount.old fed.old free.old share.old }
+pub fn exchange(pred: &[u32; ROWS], flow: &mut Flow, u: Event, w: Event, v: Event, n: usize) -> u32
+    requires holds { Flowing n pred.now flow.old }
     requires u_lt_n { (u.0 < n) × (w.0 < n) × (v.0 < n) }
-    requires t { T (marked pred.now w.0 u.0) × T (marked fed.old v.0 w.0) }
-    ensures { Exchanged n pred.now (rows amount.old fed.old free.old share.old) (rows amount.new fed.new free.new share.new) u.0 w.0 v.0 result }
+    requires t { T (marked pred.now w.0 u.0) × T (marked flow.old.fed v.0 w.0) }
+    ensures { Exchanged n pred.now flow.old flow.new u.0 w.0 v.0 result }
 {
-    let feeder = u.0;
-    let at = v.0 * EVENTS + w.0;
-    let k = least(free[feeder], amount[at]);
-    if k == 0 {
-        return 0;
+    let k = flow.free(u).min(flow.amount(v, w));
+    if k > 0 {
+        flow.give_back(v, w, k);
+        flow.draw(u, w, k);
     }
-    give_back(amount, fed, free, share, v, w, k);
-    draw(amount, fed, free, share, u, w, k);
     k
 }
 
 // The place in the queue by way of which the giver u was met, if an event stands there that u is before.
-fn taker_place(
-    pred: &[u32; ROWS],
-    queue: &[usize; EVENTS],
-    via: &[usize; EVENTS],
-    u: Event,
-    n: usize,
-) -> Found
+fn taker_place(pred: &[u32; ROWS], trail: &Trail, u: Event, n: usize) -> Option<usize>
     requires { (u.0 < n) × (n ≤ most_events) }
-    ensures { Tells (TakerPlace n pred.now queue.now via.now u.0) result }
+    ensures { Tells (TakerPlace n pred.now trail.now.queue trail.now.via u.0) result }
 {
-    let giver = u.0;
-    let at = via[giver];
-    if at >= EVENTS {
-        return Found::Nothing;
+    let at = trail.via[u.0];
+    let w = *trail.queue.get(at)?;
+    if w < n && marks::is_marked(pred, w, u.0) {
+        Some(at)
+    } else {
+        None
     }
-    let w = Event(queue[at]);
-    if w.0 >= n {
-        return Found::Nothing;
-    }
-    if !marks::is_marked(pred, w.0, u.0) {
-        return Found::Nothing;
-    }
-    Found::At(at)
-}
-
-// The giver at which a walk goes on, if there is one.
-#[derive(Clone, Copy)]
-pub enum Giver {
-    At(Event),
-    Nothing,
 }
 
 // The origin of the place `at`, if it feeds the taker w there and was met by way of an earlier place.
-fn next_giver(
-    origin: &[usize; EVENTS],
-    via: &[usize; EVENTS],
-    fed: &[u32; ROWS],
-    at: usize,
-    w: Event,
-    n: usize,
-) -> Giver
+fn next_giver(trail: &Trail, flow: &Flow, at: usize, w: Event, n: usize) -> Option<Event>
     requires { (at < most_events) × (w.0 < n) × (n ≤ most_events) }
-    ensures { TellsGiver (NextGiver n origin.now via.now fed.now at w.0) result }
+    ensures { TellsGiver (NextGiver n trail.now.origin trail.now.via flow.now.fed at w.0) result }
 {
-    let v = origin[at];
-    if v >= n {
-        return Giver::Nothing;
+    let v = Event(trail.origin[at]);
+    if v.0 < n && trail.via[v.0] < at && flow.feeds(v, w) {
+        Some(v)
+    } else {
+        None
     }
-    if via[v] >= at {
-        return Giver::Nothing;
-    }
-    if !marks::is_marked(fed, v, w.0) {
-        return Giver::Nothing;
-    }
-    Giver::At(Event(v))
 }
 
 // What a step of a walk comes to.
+// It has three cases, so it is neither an `Option` nor a `Result`.
 #[derive(Clone, Copy)]
 pub enum Step {
     Drew,
@@ -110,67 +67,40 @@ pub enum Step {
 }
 
 // One step of a walk from the giver u.
-fn walk_step(
-    pred: &[u32; ROWS],
-    queue: &[usize; EVENTS],
-    origin: &[usize; EVENTS],
-    via: &[usize; EVENTS],
-    amount: &mut [u32],
-    fed: &mut [u32; ROWS],
-    free: &mut [u32; EVENTS],
-    share: &mut [u32; EVENTS],
-    u: Event,
-    n: usize,
-) -> Step
-    requires holds { Holds n pred.now amount.old fed.old free.old share.old }
+fn walk_step(pred: &[u32; ROWS], trail: &Trail, flow: &mut Flow, u: Event, n: usize) -> Step
+    requires holds { Flowing n pred.now flow.old }
     requires u_lt_n { u.0 < n }
-    ensures moves { Moves n pred.now amount.old amount.new fed.old fed.new free.old free.new share.old share.new }
-    ensures stepped { Stepped n pred.now (trail_rows queue.now origin.now via.now) (rows amount.old fed.old free.old share.old) (rows amount.new fed.new free.new share.new) u.0 result }
+    ensures moves { Moved n pred.now flow.old flow.new }
+    ensures stepped { Stepped n pred.now (trail_rows trail.now.queue trail.now.origin trail.now.via) flow.old flow.new u.0 result }
 {
-    let giver = u.0;
-    if free[giver] == 0 {
+    if flow.free(u) == 0 {
         return Step::Stuck;
     }
-    let place = taker_place(pred, queue, via, u, n);
-    let Found::At(at) = place else {
+    let Some(at) = taker_place(pred, trail, u, n) else {
         return Step::Stuck;
     };
-    let taker = queue[at];
-    let w = Event(taker);
-    if share[taker] > 0 {
-        draw_most(pred, amount, fed, free, share, u, w, n);
+    let w = Event(trail.queue[at]);
+    if flow.lacks(w) > 0 {
+        draw_most(pred, flow, u, w, n);
         return Step::Drew;
     }
-    let next = next_giver(origin, via, fed, at, w, n);
-    let Giver::At(v) = next else {
+    let Some(v) = next_giver(trail, flow, at, w, n) else {
         return Step::Stuck;
     };
-    exchange(pred, amount, fed, free, share, u, w, v, n);
+    exchange(pred, flow, u, w, v, n);
     Step::On(v)
 }
 
 // Walks from the giver u along the trail until a taker that lacks tokens draws some. Returns whether one did.
-pub fn walk(
-    pred: &[u32; ROWS],
-    queue: &[usize; EVENTS],
-    origin: &[usize; EVENTS],
-    via: &[usize; EVENTS],
-    amount: &mut [u32],
-    fed: &mut [u32; ROWS],
-    free: &mut [u32; EVENTS],
-    share: &mut [u32; EVENTS],
-    u: Event,
-    n: usize,
-) -> bool
-    requires holds { Holds n pred.now amount.old fed.old free.old share.old }
+pub fn walk(pred: &[u32; ROWS], trail: &Trail, flow: &mut Flow, u: Event, n: usize) -> bool
+    requires holds { Flowing n pred.now flow.old }
     requires u_lt_n { u.0 < n }
-    ensures moves { Moves n pred.now amount.old amount.new fed.old fed.new free.old free.new share.old share.new }
-    ensures walked { Walked n pred.now (trail_rows queue.now origin.now via.now) (rows amount.old fed.old free.old share.old) (rows amount.new fed.new free.new share.new) u.0 result }
+    ensures moves { Moved n pred.now flow.old flow.new }
+    ensures walked { Walked n pred.now (trail_rows trail.now.queue trail.now.origin trail.now.via) flow.old flow.new u.0 result }
 {
     let mut giver = u;
     loop {
-        let came = walk_step(pred, queue, origin, via, amount, fed, free, share, giver, n);
-        match came {
+        match walk_step(pred, trail, flow, giver, n) {
             Step::Drew => {
                 return true;
             }

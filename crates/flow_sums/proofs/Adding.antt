@@ -1,16 +1,16 @@
 -- Number after number: the sums so far, at each event and of the shares.
-use Prim.Native.Nat.{ℕ, ◌+◌, ◌*◌, ◌<◌, ◌≤◌}
+use Prim.Native.Nat.{ℕ, ◌+◌, ◌<◌, ◌≤◌}
 use native.Mathlib.Omega.{arith}
 use mathlib.Core.List.{List}
-use mathlib.Core.Path.{◌≡◌, sym, ap, ap₂, ◌∙◌}
+use mathlib.Core.Path.{◌≡◌, sym, ap, ◌∙◌}
 use lib.Dec.{eqb}
 use lib.ListN.{length, get_or, set, replicate}
 use Rattle.ids.specs.Limits.{most_events}
 use Rattle.finite.specs.Row.{zeros, raised_at}
-use Rattle.finite.specs.Sum.{on, at_end, on_le, sum_start, sum_more, end_start, end_more}
+use Rattle.finite.specs.Sum.{on, at_end, on_le, end_start, end_more}
 use Rattle.plan.specs.Net.{Plan}
 use Rattle.plan.specs.Flow.{Flow}
-use Rattle.flow_sums.specs.Sums.{most_number, SumRaised, Sums, PairSums, shares_of}
+use Rattle.flow_sums.specs.Sums.{most_number, SumRaised, Sums, PairSums}
 
 -- one sum with one number more
 pub sum_raised : (sums : List ℕ) (v x y : ℕ) → v < length sums → y ≡ x → y ≤ most_number → SumRaised sums (set sums v (get_or sums v 0 + y)) v x
@@ -44,18 +44,3 @@ module _ {P : Plan} {x : Flow} {m : ℕ} {into out : List ℕ} where
         arrive = sums_more P.later x m into _ _ _ g.arrive at_b is arrived;
         leave = sums_more P.earlier x m out _ _ _ g.leave at_a is left;
       }
-
--- the shares so far, which are numbers of 32 bits
-pub record Shared (row : List ℕ) (pairs v total : ℕ) : Type 0 where
-  pub value : total ≡ shares_of row pairs v
-  pub most : total ≤ most_number * v
-
-pub shares_start : (row : List ℕ) (pairs v total : ℕ) → v ≡ 0 → total ≡ 0 → Shared row pairs v total
-unfolding shares_of
-shares_start row pairs v total first none = record { value = rw (first, none) (sym (sum_start _)); most = omega arith }
-
-pub shares_more : (row : List ℕ) (pairs v total x : ℕ) → Shared row pairs v total → x ≡ get_or row (pairs + v) 0 → x ≤ most_number
-    → Shared row pairs (v + 1) (total + x)
-unfolding shares_of
-shares_more row pairs v total x g read small =
-    record { value = ap₂ ◌+◌ g.value read ∙ sym (sum_more v _); most = omega (arith, g.most) }

@@ -1,14 +1,15 @@
 -- The walk back from an event along skeleton pairs: a step exists, and steps lead nearer.
 use Prim.Native.Nat.{ℕ, ◌+◌, ◌<◌}
 use native.Mathlib.Omega.{arith}
-use mathlib.Core.Bool.{Bool, true, false, ◌&&◌, ◌||◌}
+use mathlib.Core.Bool.{Bool, true, false, not, ◌&&◌, ◌||◌}
 use mathlib.Core.List.{List}
 use mathlib.Core.Logic.{◌⊎◌, inl, inr, ⊎_elim}
-use mathlib.Core.Path.{◌≡◌, refl, sym, subst, subst₂}
+use mathlib.Core.Path.{◌≡◌, refl, sym, subst, subst₂, ◌∙◌}
+use borrow.Author.Tests.{not-false}
 use denote.Floats.{passes}
 use lib.Dec.{T, eqb, eqb→eq}
 use lib.ListN.{length, get_or, length-set}
-use mir.Facts.{and_yes, yes_and, or_yes, yes_eqb}
+use mir.Facts.{and_yes, yes_and, or_yes, yes_eqb, eqb_no}
 use Rattle.ids.specs.Limits.{most_events}
 use Rattle.finite.specs.Bounded.{yes_or_left, yes_or_right}
 use Rattle.finite.specs.Row.{raised_at}
@@ -122,6 +123,13 @@ module _ {P : Plan} {succ skel index : List ℕ} (way : Walkable P succ skel ind
 
       early : v < P.events
       early = before_earlier P way.sound back
+
+-- what the test of two events tells
+pub events_apart : {a b : ℕ} {r : Bool} → r ≡ not (eqb a b) → r ≡ true → ¬ (a ≡ b)
+events_apart is t = eqb_no (passes _ (sym is ∙ t))
+
+pub events_meet : {a b : ℕ} {r : Bool} → r ≡ not (eqb a b) → r ≡ false → a ≡ b
+events_meet {a} {b} is t = eqb→eq a b (passes _ (not-false _ (sym is ∙ t)))
 
 -- The walk from w back toward u has come to cur.
 pub record Walk (P : Plan) (row₀ row : List ℕ) (u cur w k : ℕ) : Type 0 where

@@ -1,16 +1,20 @@
 -- In rows of an order each two ordered events have one mark, so marks and free pairs make all pairs of two events.
-use Prim.Native.Nat.{ℕ, ◌+◌, ◌*◌, ◌≤◌, ◌<◌}
+use Rattle.std.specs.Prelude.{map}
+use Rattle.std.specs.List.{sum as list_sum, range_with_len}
+use Rattle.std.proofs.lemmas.List.FromFn.{sum_by-map-range_with_len_more}
+use native.Mathlib.Numerals.{add-one}
+use Prim.Native.Nat.{ℕ, zero, suc, ◌+◌, ◌*◌, ◌≤◌, ◌<◌}
 use native.Mathlib.Nat.{le_antisymm, mul-le-mul}
 use native.Mathlib.Omega.{arith}
 use mathlib.Core.Bool.{not}
 use mathlib.Core.List.{List}
-use mathlib.Core.Path.{◌≡◌, sym, subst, ◌∙◌}
+use mathlib.Core.Path.{◌≡◌, sym, ap, subst, ◌∙◌}
 use lib.Dec.{T, not_T, eqb, eqb→eq}
 use mir.Facts.{and_yes, yes_and}
 use Rattle.finite.specs.Count.{count, count_below, count_ext}
 use Rattle.finite.specs.Pairs.{neither, count_pairs}
 use Rattle.finite.proofs.Pairs.{pairs_left, pairs_mono}
-use Rattle.finite.specs.Sum.{sum_ext, sum_more, sum_start}
+use Rattle.finite.specs.Sum.{sum, sum_ext, sum_more, sum_start}
 use Rattle.ids.specs.Limits.{most_events}
 use Rattle.plan.specs.Net.{Plan}
 use Rattle.plan.specs.Order.{chain, before, independent, free_count}
@@ -19,28 +23,15 @@ use Rattle.marks.specs.Marks.{marked}
 use Rattle.mark_count.specs.MarkCount.{marks_of}
 use Rattle.free_pairs.specs.FreeRows.{OrderIn, SomeOrder, ordered_in}
 
--- What a loop knows that adds up the marks of one row after another, at most 256 to a row.
-pub record Added (rows : List ℕ) (n v sum : ℕ) : Type 0 where
-  pub passed : v ≤ n
-  pub marks : sum ≡ ordered_in rows v
-  pub few : sum ≤ 256 * v
-
-module _ (rows : List ℕ) (n : ℕ) where
-  pub start : Added rows n 0 0
-  unfolding ordered_in
-  start = record { passed = omega arith; marks = sym (sum_start (marks_of rows)); few = omega arith }
-
-  pub more : (v so_far here : ℕ) → v < n → here ≡ marks_of rows v → here ≤ 256 → Added rows n v so_far → Added rows n (v + 1) (so_far + here)
-  unfolding ordered_in
-  more v so_far here l is most a =
-      record {
-        passed = omega arith;
-        marks = omega (arith, is, a.marks, sum_more v (marks_of rows));
-        few = omega (arith, most, a.few);
-      }
-
-  pub done : (v r : ℕ) → n ≤ v → Added rows n v r → r ≡ ordered_in rows n
-  done v r all a = let last : v ≡ n = omega (arith, a.passed) in rw last at a.marks
+-- the marks of the first n rows, added up as a list
+pub total : (rows : List ℕ) (n : ℕ) → list_sum (map (marks_of rows) (range_with_len 0 n)) ≡ ordered_in rows n
+unfolding ordered_in
+total rows zero = sym (sum_start (marks_of rows))
+total rows (suc n) =
+    ap (λ (k : ℕ). list_sum (map (marks_of rows) (range_with_len 0 k))) (sym (add-one n))
+    ∙ sum_by-map-range_with_len_more (λ x. x) (marks_of rows) 0 n n (omega arith)
+    ∙ ap (λ (k : ℕ). k + marks_of rows n) (total rows n) ∙ sym (sum_more n (marks_of rows))
+    ∙ ap (λ (k : ℕ). sum k (marks_of rows)) (add-one n)
 
 module _ (P : Plan) (rows : List ℕ) (n : ℕ) (order : OrderIn P rows n) (few : n ≤ most_events) where
   -- row v has a mark for each event that is before v

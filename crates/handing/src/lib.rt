@@ -1,103 +1,87 @@
 // A place of a sheet without fault judged with the amounts that are lent, and what it hands over: a valid flow, or zeros and the done set.
 #![tactic(auto)]
 
-ghost use Rattle.std.specs.Prelude.{◌+◌, ◌*◌, ◌<◌, ◌≤◌, T, length};
+ghost use Rattle.std.specs.Prelude.{◌*◌, ◌<◌, ◌≤◌, T, length};
+ghost use Rattle.calls.specs.FlowRow.{flow_length};
 ghost use Rattle.fold.specs.Written.{SharesFrom};
 ghost use Rattle.ids.specs.Limits.{most_events};
-ghost use Rattle.layout.specs.Layout.{LayoutOf};
 ghost use Rattle.order.specs.Rows.{OrderRows};
 ghost use Rattle.sheet.specs.Faultless.{Faultless};
 ghost use Rattle.sheet.specs.Items.{plan_of};
+ghost use Rattle.sheet.specs.Table.{places_of, events_of, pairs_of};
 ghost use Rattle.handing.specs.Handed.{valid_at, ShownBy, Written};
 ghost use Rattle.handing.specs.Known.{Judgeable, JudgedBy};
 
 use done_set::write_marks;
-use filling::put_words;
 use fold::write_flow;
 use ids::{EVENTS, Place, ROWS, WORDS};
-use layout::Layout;
+use order::Order;
 use place::place_counts;
-use skeleton::{INDEX, index_pairs};
+use reader::Reader;
+use skeleton::{Skeleton, index_pairs};
+use tokenflow::Flow;
 
 // Writes the tokenflow of a place that lacks nothing as a flow row, by way of the skeleton pairs.
-fn hand_over(
-    s: &[u8],
-    l: Layout,
-    p: Place,
-    succ: &[u32; ROWS],
-    pred: &[u32; ROWS],
-    amount: &[u32],
-    fed: &[u32; ROWS],
-    share: &[u32; EVENTS],
-    flow: &mut [u32],
-)
-    requires faultless { Faultless s.now }
-    requires layout_of { LayoutOf s.now l }
-    requires p_lt_places { p.0 < l.places }
-    requires order_rows { OrderRows (plan_of s.now) succ.now pred.now }
-    requires shown_by { ShownBy s.now p pred.now amount.now fed.now share.now 0 }
-    requires events_in_bounds { l.pairs + l.events ≤ length flow.old }
-    ensures t { T (valid_at s.now p.0 flow.new) }
-    ensures shares_from { SharesFrom l.pairs flow.old flow.new share.now l.events }
+fn hand_over(sheet: &Reader, p: Place, order: &Order, flow: &Flow, row: &mut [u32])
+    requires faultless { Faultless sheet.now }
+    requires known { p.0 < places_of sheet.now }
+    requires order_rows { OrderRows (plan_of sheet.now) order.now.succ order.now.pred }
+    requires shown_by { ShownBy sheet.now p order.now.pred flow.now.amount flow.now.fed flow.now.share 0 }
+    requires room { flow_length sheet.now ≤ length row.old }
+    ensures t { T (valid_at sheet.now p.0 row.new) }
+    ensures shares_from { SharesFrom (pairs_of sheet.now) row.old row.new flow.now.share (events_of sheet.now) }
 {
-    let mut skel = [0u32; ROWS];
-    let mut index = [0u16; INDEX];
-    index_pairs(s, l, succ, pred, &mut skel, &mut index);
-    let pairs = l.pairs;
-    let n = l.events;
-    write_flow(succ, &skel, &index, amount, fed, share, flow, pairs, n);
+    let mut skeleton = Skeleton::blank();
+    index_pairs(sheet, order, &mut skeleton);
+    let pairs = sheet.pairs();
+    let n = sheet.events();
+    write_flow(&order.succ, &skeleton, flow, row, pairs, n);
 }
 
-// Writes the flow row of a judged place: a valid flow if nothing is missing, else zeros.
-pub fn hand_flow(
-    s: &[u8],
-    l: Layout,
-    p: Place,
-    succ: &[u32; ROWS],
-    pred: &[u32; ROWS],
-    amount: &[u32],
-    fed: &[u32; ROWS],
-    share: &[u32; EVENTS],
-    m: u32,
-    flow: &mut [u32],
-)
-    requires faultless { Faultless s.now }
-    requires layout_of { LayoutOf s.now l }
-    requires p_lt_places { p.0 < l.places }
-    requires order_rows { OrderRows (plan_of s.now) succ.now pred.now }
-    requires shown_by { ShownBy s.now p pred.now amount.now fed.now share.now m }
-    requires events_in_bounds { l.pairs + l.events ≤ length flow.old }
-    ensures { Written s.now p.0 flow.old flow.new }
+// Writes the flow row of a judged place: a valid flow if none of its tokens are missing, else zeros.
+pub fn hand_flow(sheet: &Reader, p: Place, order: &Order, flow: &Flow, m: u32, row: &mut [u32])
+    requires faultless { Faultless sheet.now }
+    requires known { p.0 < places_of sheet.now }
+    requires order_rows { OrderRows (plan_of sheet.now) order.now.succ order.now.pred }
+    requires shown_by { ShownBy sheet.now p order.now.pred flow.now.amount flow.now.fed flow.now.share m }
+    requires room { flow_length sheet.now ≤ length row.old }
+    ensures { Written sheet.now p.0 row.old row.new }
 {
     if m == 0 {
-        hand_over(s, l, p, succ, pred, amount, fed, share, flow);
+        hand_over(sheet, p, order, flow, row);
         return;
     }
-    put_words(flow, l.pairs + l.events, 0);
+    let count = sheet.pairs() + sheet.events();
+    row[..count].fill(0);
 }
 
 // The spare count of a place of a sheet without fault, with the amounts lent and the other working rows. The order of the plan is handed in,
 // so that it is worked out once.
 pub fn judge_in(
-    s: &[u8],
-    l: Layout,
+    sheet: &Reader,
     p: Place,
-    succ: &[u32; ROWS],
-    pred: &[u32; ROWS],
+    order: &Order,
     amount: &mut [u32],
     flow: &mut [u32],
     marks: &mut [u8],
 ) -> i32
-    requires judgeable { Judgeable s.now l p succ.now pred.now flow.old marks.old }
-    requires most_events_in_bounds { l.events * most_events ≤ length amount.old }
-    ensures { JudgedBy s.now p flow.old flow.new marks.old marks.new result }
+    requires judgeable { Judgeable sheet.now p order.now.succ order.now.pred flow.old marks.old }
+    requires amounts { events_of sheet.now * most_events ≤ length amount.old }
+    ensures { JudgedBy sheet.now p flow.old flow.new marks.old marks.new result }
 {
     let mut fed = [0u32; ROWS];
+    let mut free = [0u32; EVENTS];
     let mut share = [0u32; EVENTS];
     let mut givers = [0u32; WORDS];
-    let counts = place_counts(s, l, p, pred, amount, &mut fed, &mut share, &mut givers);
+    let mut settled = Flow {
+        amount,
+        fed: &mut fed,
+        free: &mut free,
+        share: &mut share,
+    };
+    let counts = place_counts(sheet, p, &order.pred, &mut settled, &mut givers);
     let m = counts.missing;
-    hand_flow(s, l, p, succ, pred, amount, &fed, &share, m, flow);
-    write_marks(&givers, m, marks, l.events);
+    hand_flow(sheet, p, order, &settled, m, flow);
+    write_marks(&givers, m, marks, sheet.events());
     counts.spare
 }

@@ -1,15 +1,18 @@
 // Faults 5 to 9, item after item up to the first at fault, on a sheet whose layout has no fault.
+// Numbers are cast to fewer bits, which loses nothing, as the check proves: `TryFrom` would need an answer for what can't come.
+// Each loop stops at the first item that fails its own test. One loop for all would take the test as a closure, and with it say each clause twice: no plainer.
 #![tactic(auto)]
 
 ghost use Rattle.std.specs.Prelude.{◌<◌, ◌≡◌};
+ghost use Rattle.sheet.specs.Answered.{told_by};
 ghost use Rattle.sheet.specs.Faults.{over_opening, over_weight_in, over_weight, no_transition, no_event, self_pair, number_faults, first_fault};
+ghost use Rattle.sheet.specs.Laid.{Laid};
+ghost use Rattle.sheet.specs.Table.{transitions_of};
 ghost use Rattle.sheet.specs.Told.{tell};
-ghost use Rattle.layout.specs.Layout.{LaidBy};
 
 use ids::{Event, Place, Transition};
-use layout::Layout;
-use lookup::{earlier, gives, label, later, opening, takes};
-use sheet::{Fault, item_fault, no_fault};
+use reader::Reader;
+use sheet::Fault;
 
 // The highest opening count and the highest weight.
 const OPENING: u32 = 1000000;
@@ -17,29 +20,29 @@ const OPENING: u32 = 1000000;
 pub const WEIGHT: u32 = 1000;
 
 // 5: opening count above 1,000,000; the item is the place.
-pub fn over_opening(s: &[u8], l: Layout) -> Fault
-    requires { LaidBy s.now l }
-    ensures { result ≡ tell 5 (over_opening s.now) }
+pub fn over_opening(sheet: &Reader) -> Result<(), Fault>
+    requires { Laid sheet.now }
+    ensures { told_by result ≡ tell 5 (over_opening sheet.now) }
 {
-    for p in 0..l.places {
-        if opening(s, l, Place(p)) > OPENING {
-            return item_fault(5, p);
+    for p in 0..sheet.places() {
+        if sheet.opening(Place(p)) > OPENING {
+            return Err(Fault::OverOpening(p as u32));
         }
     }
-    no_fault()
+    Ok(())
 }
 
 // 6: weight above 1,000, at one transition.
-fn over_weight_in(s: &[u8], l: Layout, t: Transition) -> bool
-    requires laid_by { LaidBy s.now l }
-    requires t_lt_transitions { t.0 < l.transitions }
-    ensures { result ≡ over_weight_in s.now t.0 }
+fn over_weight_in(sheet: &Reader, t: Transition) -> bool
+    requires laid { Laid sheet.now }
+    requires known { t.0 < transitions_of sheet.now }
+    ensures { result ≡ over_weight_in sheet.now t.0 }
 {
-    for p in 0..l.places {
-        if takes(s, l, t, Place(p)) > WEIGHT {
+    for p in 0..sheet.places() {
+        if sheet.takes(t, Place(p)) > WEIGHT {
             return true;
         }
-        if gives(s, l, t, Place(p)) > WEIGHT {
+        if sheet.gives(t, Place(p)) > WEIGHT {
             return true;
         }
     }
@@ -47,77 +50,69 @@ fn over_weight_in(s: &[u8], l: Layout, t: Transition) -> bool
 }
 
 // 6: weight above 1,000; the item is the transition.
-fn over_weight(s: &[u8], l: Layout) -> Fault
-    requires { LaidBy s.now l }
-    ensures { result ≡ tell 6 (over_weight s.now) }
+fn over_weight(sheet: &Reader) -> Result<(), Fault>
+    requires { Laid sheet.now }
+    ensures { told_by result ≡ tell 6 (over_weight sheet.now) }
 {
-    for t in 0..l.transitions {
-        if over_weight_in(s, l, Transition(t)) {
-            return item_fault(6, t);
+    for t in 0..sheet.transitions() {
+        if over_weight_in(sheet, Transition(t)) {
+            return Err(Fault::OverWeight(t as u32));
         }
     }
-    no_fault()
+    Ok(())
 }
 
 // 7: event names no transition; the item is the event.
-pub fn no_transition(s: &[u8], l: Layout) -> Fault
-    requires { LaidBy s.now l }
-    ensures { result ≡ tell 7 (no_transition s.now) }
+pub fn no_transition(sheet: &Reader) -> Result<(), Fault>
+    requires { Laid sheet.now }
+    ensures { told_by result ≡ tell 7 (no_transition sheet.now) }
 {
-    for v in 0..l.events {
-        let t = label(s, l, Event(v));
-        if t.0 >= l.transitions {
-            return item_fault(7, v);
+    for v in 0..sheet.events() {
+        let t = sheet.label(Event(v));
+        if t.0 >= sheet.transitions() {
+            return Err(Fault::NoTransition(v as u32));
         }
     }
-    no_fault()
+    Ok(())
 }
 
 // The first of faults 5, 6 and 7: those of the numbers that stand before the pairs.
-pub fn number_fault(s: &[u8], l: Layout) -> Fault
-    requires { LaidBy s.now l }
-    ensures { result ≡ first_fault number_faults s.now }
+pub fn number_fault(sheet: &Reader) -> Result<(), Fault>
+    requires { Laid sheet.now }
+    ensures { told_by result ≡ first_fault number_faults sheet.now }
 {
-    let opening = over_opening(s, l);
-    if opening.number != 0 {
-        return opening;
-    }
-    let weight = over_weight(s, l);
-    if weight.number != 0 {
-        return weight;
-    }
-    no_transition(s, l)
+    over_opening(sheet)?;
+    over_weight(sheet)?;
+    no_transition(sheet)
 }
 
 // 8: pair names no event; the item is the pair.
-pub fn no_event(s: &[u8], l: Layout) -> Fault
-    requires { LaidBy s.now l }
-    ensures { result ≡ tell 8 (no_event s.now) }
+pub fn no_event(sheet: &Reader) -> Result<(), Fault>
+    requires { Laid sheet.now }
+    ensures { told_by result ≡ tell 8 (no_event sheet.now) }
 {
-    for i in 0..l.pairs {
-        let u = earlier(s, l, i);
-        if u.0 >= l.events {
-            return item_fault(8, i);
+    for i in 0..sheet.pairs() {
+        let u = sheet.earlier(i);
+        if u.0 >= sheet.events() {
+            return Err(Fault::NoEvent(i as u32));
         }
-        let v = later(s, l, i);
-        if v.0 >= l.events {
-            return item_fault(8, i);
+        let v = sheet.later(i);
+        if v.0 >= sheet.events() {
+            return Err(Fault::NoEvent(i as u32));
         }
     }
-    no_fault()
+    Ok(())
 }
 
 // 9: pair of an event with itself; the item is the pair.
-pub fn self_pair(s: &[u8], l: Layout) -> Fault
-    requires { LaidBy s.now l }
-    ensures { result ≡ tell 9 (self_pair s.now) }
+pub fn self_pair(sheet: &Reader) -> Result<(), Fault>
+    requires { Laid sheet.now }
+    ensures { told_by result ≡ tell 9 (self_pair sheet.now) }
 {
-    for i in 0..l.pairs {
-        let u = earlier(s, l, i);
-        let v = later(s, l, i);
-        if u.0 == v.0 {
-            return item_fault(9, i);
+    for i in 0..sheet.pairs() {
+        if sheet.earlier(i) == sheet.later(i) {
+            return Err(Fault::SelfPair(i as u32));
         }
     }
-    no_fault()
+    Ok(())
 }

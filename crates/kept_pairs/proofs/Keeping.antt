@@ -18,7 +18,8 @@ use Rattle.plan.specs.Net.{Plan}
 use Rattle.plan.specs.OnlyPairs.{pairs_before}
 use Rattle.plan.proofs.OnlyPairs.{before_same}
 use Rattle.plan.specs.Order.{before}
-use Rattle.reasons.specs.KeptRows.{HoldsKept}
+use Rattle.reasons.specs.declared.KeptPairs.{KeptPairs}
+use Rattle.reasons.specs.KeptRows.{KeptOf}
 use Rattle.reasons.proofs.Laws.{kept_ends}
 use Rattle.reasons.specs.Reasons.{kept, kept_plan, kept_count, kept_cycle}
 use Rattle.sheet.specs.Items.{net_of, plan_of}
@@ -36,44 +37,49 @@ pub kept_most : (s : List ℕ) → Laid s → kept_count s ≤ most_pairs
 kept_most s known = omega (arith, chosen_length (kept s) (pairs_of s), known.limited.pairs)
 
 -- The rows are of the kept plan.
-module _ (s : List ℕ) (l : Layout) (known : LaidBy s l) (from to : List ℕ) (holds : HoldsKept s (pairs_of s) from to) (count : ℕ) (counted : count ≡ kept_count s) where
-  abbrev P : Plan
-  P = plan_by l.events count from to
+module _ (s : List ℕ) (known : Laid s) (pairs : KeptPairs) (of : KeptOf s pairs) where
+  module _ (events : ℕ) (told : events ≡ events_of s) where
+    abbrev P : Plan
+    P = plan_by events pairs.count pairs.from pairs.to
 
-  same_pairs : SamePairs P (kept_plan s)
-  same_pairs =
-      record { pairs = counted; earlier = λ k h. holds.earlier k (omega (arith, counted)); later = λ k h. holds.later k (omega (arith, counted)) }
+    same_pairs : SamePairs P (kept_plan s)
+    same_pairs =
+        record {
+          pairs = of.count;
+          earlier = λ k h. of.holds.earlier k (omega (arith, of.count));
+          later = λ k h. of.holds.later k (omega (arith, of.count));
+        }
 
-  pub kept_within : PlanInRows l.events count from to
-  kept_within =
-      record {
-        few = omega (arith, known.1.events, known.0.limited.events);
-        most = omega (arith, counted, kept_most s known.0);
-        named = record {
-          earlier = λ k h. let there : k < kept_count s = omega (arith, counted) in omega (arith, holds.earlier k there, (kept_ends s k there).0, known.1.events);
-          later = λ k h. let there : k < kept_count s = omega (arith, counted) in omega (arith, holds.later k there, (kept_ends s k there).1, known.1.events);
-        };
-      }
+    pub kept_within : PlanInRows events pairs.count pairs.from pairs.to
+    kept_within =
+        record {
+          few = omega (arith, told, known.limited.events);
+          most = omega (arith, of.count, kept_most s known);
+          named = record {
+            earlier = λ k h. let there : k < kept_count s = omega (arith, of.count) in omega (arith, of.holds.earlier k there, (kept_ends s k there).0, told);
+            later = λ k h. let there : k < kept_count s = omega (arith, of.count) in omega (arith, of.holds.later k there, (kept_ends s k there).1, told);
+          };
+        }
 
-  pub kept_events : Events count from × Events count to
+    pub kept_cycle_lem : has_cycle P ≡ kept_cycle s
+    unfolding has_cycle kept_cycle
+    kept_cycle_lem =
+        ap (λ (n : ℕ). any n (λ v. before P v v)) told
+        ∙ any_ext (events_of s) (λ v. before P v v) (λ v. before (kept_plan s) v v) (λ v h.
+        before_same P (kept_plan s) (pairs_before P (kept_plan s) same_pairs) v v)
+
+  pub kept_events : Events pairs.count pairs.from × Events pairs.count pairs.to
   kept_events =
-      let within = kept_within in (
+      let within = kept_within (events_of s) refl in (
         λ k h. omega (arith, within.named.earlier k h, within.few),
         λ k h. omega (arith, within.named.later k h, within.few),
       )
 
-  pub kept_cycle_lem : has_cycle P ≡ kept_cycle s
-  unfolding has_cycle kept_cycle
-  kept_cycle_lem =
-      ap (λ (n : ℕ). any n (λ v. before P v v)) known.1.events
-      ∙ any_ext (events_of s) (λ v. before P v v) (λ v. before (kept_plan s) v v) (λ v h.
-      before_same P (kept_plan s) (pairs_before P (kept_plan s) same_pairs) v v)
-
-  kept_order : each count (rows_bytes from to) ≡ order_bytes (kept_plan s)
+  kept_order : each pairs.count (rows_bytes pairs.from pairs.to) ≡ order_bytes (kept_plan s)
   unfolding order_bytes
   kept_order =
-      ap (λ (n : ℕ). each n (rows_bytes from to)) counted
-      ∙ each_ext (kept_count s) _ _ (λ k h. ap₂ pair_bytes (holds.earlier k h) (holds.later k h))
+      ap (λ (n : ℕ). each n (rows_bytes pairs.from pairs.to)) of.count
+      ∙ each_ext (kept_count s) _ _ (λ k h. ap₂ pair_bytes (of.holds.earlier k h) (of.holds.later k h))
 
 -- after the table and what stands before the pairs there is room for all given pairs
 pub pairs_room : (s : List ℕ) (l : Layout) → LaidBy s l → (at end have : ℕ) → at ≡ table_length → end + places_at l ≡ at + pairs_at l → length s ≤ have
@@ -96,11 +102,11 @@ module _ (s : List ℕ) (l : Layout) (known : LaidBy s l) where
       let there = ap₂ (λ (a b : ℕ). slice a b s) from known.1.pairs_at_lem in
       there ∙ bodies_part s known.0 (subst Bytes there small) ∙ kept_body s
 
-  pub clean_put : {old one two new : List ℕ} {at end last : ℕ} (m : Layout) (count : ℕ) (from to : List ℕ) → count ≡ kept_count s → HoldsKept s (pairs_of s) from to
-      → m ≡ layout_for l.places l.transitions l.events count → Put old one 0 (table m) at → Put one two at (slice (places_at l) (pairs_at l) s) end
-      → Bytes (slice (places_at l) (pairs_at l) s) → Put two new end (each count (rows_bytes from to)) last → Put old new 0 (clean_of s) last
+  pub clean_put : {old one two new : List ℕ} {at end last : ℕ} (m : Layout) (pairs : KeptPairs) → KeptOf s pairs
+      → m ≡ layout_for l.places l.transitions l.events pairs.count → Put old one 0 (table m) at → Put one two at (slice (places_at l) (pairs_at l) s) end
+      → Bytes (slice (places_at l) (pairs_at l) s) → Put two new end (each pairs.count (rows_bytes pairs.from pairs.to)) last → Put old new 0 (clean_of s) last
   unfolding clean_of bytes_of
-  clean_put m count from to counted holds is first second small third =
+  clean_put m pairs of is first second small third =
       put_then
-      (put_then (put_says first (table (layout_of (net_of s) (kept_plan s))) (ap table (layout_is m count counted is))) (put_says second (body_bytes (net_of s) (kept_plan s)) (part_is small)))
-      (put_says third (order_bytes (kept_plan s)) (kept_order s l known from to holds count counted))
+      (put_then (put_says first (table (layout_of (net_of s) (kept_plan s))) (ap table (layout_is m pairs.count of.count is))) (put_says second (body_bytes (net_of s) (kept_plan s)) (part_is small)))
+      (put_says third (order_bytes (kept_plan s)) (kept_order s known.0 pairs of))

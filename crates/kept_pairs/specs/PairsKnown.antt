@@ -1,16 +1,16 @@
--- What is known of the pairs of a sheet, in rows: the reason of each, the ends of those that are kept, and how many these are.
-use Rattle.std.specs.Prelude.{ℕ, ◌<◌, List, ◌≡◌, get_or}
+-- What is known of the pairs of a sheet, in rows: the reason of each, and those that are kept.
+use Rattle.std.specs.Prelude.{ℕ, ◌<◌, List, get_or}
 use Rattle.finite.specs.Filled.{Filled}
 use Rattle.ids.specs.Limits.{most_events}
-use Rattle.reasons.specs.KeptRows.{HoldsKept}
-use Rattle.reasons.specs.Reasons.{reason_at, kept_count}
+use Rattle.reasons.specs.declared.KeptPairs.{KeptPairs}
+use Rattle.reasons.specs.KeptRows.{KeptOf}
+use Rattle.reasons.specs.Reasons.{reason_at}
 use Rattle.sheet.specs.Table.{pairs_of}
 use Rattle.writer.specs.Written.{pair_bytes}
 
-pub record PairsKnown (s : List ℕ) (old reasons from to : List ℕ) (kept : ℕ) : Type 0 where
+pub record PairsKnown (s : List ℕ) (old reasons : List ℕ) (pairs : KeptPairs) : Type 0 where
   pub written : Filled (reason_at s) (pairs_of s) old reasons
-  pub count : kept ≡ kept_count s
-  pub holds : HoldsKept s (pairs_of s) from to
+  pub kept : KeptOf s pairs
 
 -- The first n numbers of a row are numbers of events.
 abbrev pub Events : ℕ → List ℕ → Type 0

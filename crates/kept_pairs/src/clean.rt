@@ -1,48 +1,47 @@
 // The clean sheet, written into a row that has room for the sheet given.
+// Bytes and numbers of pairs are cast to `usize`: with `usize::from` the proofs of these loops didn't close, since an invariant then speaks of a call's result.
 ghost use Rattle.std.specs.Prelude.{◌+◌, ◌*◌, ◌≤◌, ◌≡◌, length};
 ghost use Rattle.finite.specs.Each.{each};
 ghost use Rattle.ids.specs.Limits.{most_pairs};
-ghost use Rattle.layout.specs.Layout.{LaidBy};
-ghost use Rattle.reasons.specs.KeptRows.{HoldsKept};
-ghost use Rattle.reasons.specs.Reasons.{kept_count};
-ghost use Rattle.sheet.specs.Table.{pairs_of};
+ghost use Rattle.reasons.specs.KeptRows.{KeptOf};
+ghost use Rattle.sheet.specs.Laid.{Laid};
 ghost use Rattle.text.specs.Put.{Put};
 ghost use Rattle.kept_pairs.specs.Clean.{clean_of};
 ghost use Rattle.kept_pairs.specs.PairsKnown.{Events, rows_bytes};
 
-use ids::{Event, PAIRS};
-use layout::Layout;
+use ids::Event;
+use reader::Reader;
+use reasons::KeptPairs;
 use writer::{lay_out, put_pair, put_part, put_table};
 
 // The kept pairs, in their order.
-fn put_kept(kept: usize, from: &[u8; PAIRS], to: &[u8; PAIRS], clean: &mut [u8], at: usize) -> usize
-    requires kept_le_most_pairs { (kept ≤ most_pairs) × Events kept from.now × Events kept to.now }
-    requires kept_in_bounds { at + 4 * kept ≤ length clean.old }
-    ensures { Put clean.old clean.new at (each kept (rows_bytes from.now to.now)) result }
+fn put_kept(kept: &KeptPairs, clean: &mut [u8], at: usize) -> usize
+    requires kept_le_most_pairs { (kept.now.count ≤ most_pairs) × Events kept.now.count kept.now.from × Events kept.now.count kept.now.to }
+    requires kept_in_bounds { at + 4 * kept.now.count ≤ length clean.old }
+    ensures { Put clean.old clean.new at (each kept.now.count (rows_bytes kept.now.from kept.now.to)) result }
 {
     let mut end = at;
-    for k in 0..kept {
-        let a = Event(from[k] as usize);
-        let b = Event(to[k] as usize);
+    // By number: the two ends of a pair stand in two rows.
+    for k in 0..kept.count {
+        let a = Event(kept.from[k] as usize);
+        let b = Event(kept.to[k] as usize);
         end = put_pair(clean, end, a, b);
     }
     end
 }
 
 // The table to match, what stands before the pairs as it was, and the kept pairs.
-pub fn put_clean(
-    s: &[u8],
-    l: Layout,
-    kept: usize,
-    from: &[u8; PAIRS],
-    to: &[u8; PAIRS],
-    clean: &mut [u8],
-) -> usize
-    requires laid_by { LaidBy s.now l }
-    requires holds_kept { HoldsKept s.now (pairs_of s.now) from.now to.now × (kept ≡ kept_count s.now) × (length s.now ≤ length clean.old) }
-    ensures { Put clean.old clean.new 0 (clean_of s.now) result }
+pub fn put_clean(sheet: &Reader, kept: &KeptPairs, clean: &mut [u8]) -> usize
+    requires laid { Laid sheet.now }
+    requires kept_of { KeptOf sheet.now kept.now }
+    requires room { length sheet.now ≤ length clean.old }
+    ensures { Put clean.old clean.new 0 (clean_of sheet.now) result }
 {
-    let table = put_table(clean, lay_out(l.places, l.transitions, l.events, kept));
-    let bodies = put_part(clean, table, s, l.places_at, l.pairs_at);
-    put_kept(kept, from, to, clean, bodies)
+    let l = sheet.layout();
+    let table = put_table(
+        clean,
+        lay_out(l.places, l.transitions, l.events, kept.count),
+    );
+    let bodies = put_part(clean, table, sheet.bytes(), l.places_at, l.pairs_at);
+    put_kept(kept, clean, bodies)
 }

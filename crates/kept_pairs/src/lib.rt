@@ -5,52 +5,34 @@ pub mod clean;
 
 ghost use Rattle.std.specs.Prelude.{◌≤◌, ◌≡◌, length};
 ghost use Rattle.ids.specs.Limits.{most_pairs};
-ghost use Rattle.layout.specs.Layout.{LaidBy};
 ghost use Rattle.reasons.specs.Reasons.{kept_cycle};
+ghost use Rattle.sheet.specs.Answered.{told_by};
+ghost use Rattle.sheet.specs.Laid.{Laid};
 ghost use Rattle.sheet.specs.Told.{tell, plain};
-ghost use Rattle.sorting.specs.Rows.{plan_by, PlanInRows, has_cycle};
 ghost use Rattle.kept_pairs.specs.PairsKnown.{PairsKnown};
 
-use fault::Examined;
-use ids::PAIRS;
-use layout::Layout;
-use reasons::give_reasons;
+use reader::Reader;
+use reasons::{KeptPairs, give_reasons};
 use rising::has_cycle;
-use sheet::{Fault, no_fault, plain_fault};
+use sheet::Fault;
+use sorting::Pairs;
 
-// What the pairs of a sheet were found to be: the fault that stands in the way, the sheet's layout where there is none, and how many are kept.
-#[derive(Clone, Copy)]
-pub struct PairsExamined {
-    pub examined: Examined,
-    pub kept: usize,
-}
-
-// 11, on the pairs that are kept.
-fn cycle_fault(events: usize, kept: usize, from: &[u8; PAIRS], to: &[u8; PAIRS]) -> Fault
-    requires { PlanInRows events kept from.now to.now }
-    ensures { result ≡ tell 11 (plain (has_cycle (plan_by events kept from.now to.now))) }
-{
-    if has_cycle(events, kept, from, to) {
-        return plain_fault(11);
-    }
-    no_fault()
-}
-
-// The reasons of the pairs, the ends of those that are kept, how many these are, and their fault.
-pub fn examine_pairs(
-    s: &[u8],
-    l: Layout,
-    reasons: &mut [u8],
-    from: &mut [u8; PAIRS],
-    to: &mut [u8; PAIRS],
-) -> PairsExamined
-    requires laid_by { LaidBy s.now l }
+// The reasons of the pairs, and those that are kept. 11: they have a cycle.
+pub fn examine_pairs(sheet: &Reader, reasons: &mut [u8], kept: &mut KeptPairs) -> Result<(), Fault>
+    requires laid { Laid sheet.now }
     requires most_pairs_in_bounds { most_pairs ≤ length reasons.old }
-    ensures fault_value { (result.examined.fault ≡ tell 11 (plain (kept_cycle s.now))) × (result.examined.layout ≡ l) }
-    ensures pairs_known { PairsKnown s.now reasons.old reasons.new from.new to.new result.kept }
+    ensures fault { told_by result ≡ tell 11 (plain (kept_cycle sheet.now)) }
+    ensures pairs_known { PairsKnown sheet.now reasons.old reasons.new kept.new }
 {
-    let kept = give_reasons(s, l, reasons, from, to);
-    let fault = cycle_fault(l.events, kept, from, to);
-    let examined = Examined { fault, layout: l };
-    PairsExamined { examined, kept }
+    give_reasons(sheet, reasons, kept);
+    let pairs = Pairs {
+        events: sheet.events(),
+        count: kept.count,
+        from: &kept.from,
+        to: &kept.to,
+    };
+    if has_cycle(&pairs) {
+        return Err(Fault::Cycle);
+    }
+    Ok(())
 }

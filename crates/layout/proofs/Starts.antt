@@ -13,9 +13,8 @@ use Rattle.finite.specs.Bounded.{any}
 use Rattle.finite.proofs.First.{first_found, first_done}
 use Rattle.finite.specs.Search.{search_more}
 use Rattle.sheet.specs.Table.{start, due}
-use Rattle.sheet.specs.Told.{fault_at, no_fault, tell, plain, or_else}
+use Rattle.sheet.specs.Told.{fault_at, no_fault, tell, plain, or_else, Told}
 use Rattle.sheet.specs.Faults.{misplaced_at, misplaced, late_at, late, early_at, early}
-use Rattle.sheet.specs.declared.Fault.{Fault}
 use Rattle.layout.specs.Starts.{start_fault, starts_fault}
 
 -- neither 14 nor 15
@@ -25,10 +24,10 @@ neither true b e = let wrong : ⊥ = omega arith in absurd wrong
 neither false true e = let wrong : ⊥ = omega arith in absurd wrong
 neither false false e = (refl, refl)
 
-pub start_right : (at due : ℕ) (r : Fault) → r ≡ start_fault at due → r.number ≡ 0 → at ≡ due
+pub start_right : (at due : ℕ) (r : Told) → r ≡ start_fault at due → r.number ≡ 0 → at ≡ due
 unfolding start_fault
 start_right at due r is e =
-    let both = neither (ltb due at) (ltb at due) (ap (λ (f : Fault). f.number) (sym is) ∙ e) in
+    let both = neither (ltb due at) (ltb at due) (ap (λ (f : Told). f.number) (sym is) ∙ e) in
     omega (arith, ltb-false due at both.0, ltb-false at due both.1)
 
 module _ (at due : ℕ) where
@@ -47,7 +46,7 @@ module _ (at due : ℕ) where
       sym (ap₂ (λ (a b : Bool). or_else (tell 14 (plain a)) (tell 15 (plain b))) (le-ltb due at (omega arith)) (le-ltb at due (omega arith)))
 
 module _ (s : List ℕ) (e : ℕ) (l : e < 4) (so_far : any e (misplaced_at s) ≡ false) (at ends : ℕ) (is : at ≡ start s e) (end : ends ≡ due s e)
-    (r : Fault) (told : r ≡ start_fault at ends) where
+    (r : Told) (told : r ≡ start_fault at ends) where
   -- the first wrong one decides
   decides : ¬ (start s e ≡ due s e) → start_fault (start s e) (due s e) ≡ starts_fault s
   unfolding start_fault starts_fault late early misplaced misplaced_at
@@ -60,7 +59,7 @@ module _ (s : List ℕ) (e : ℕ) (l : e < 4) (so_far : any e (misplaced_at s) �
 
   pub wrong_here : ¬ (r.number ≡ 0) → r ≡ starts_fault s
   wrong_here there =
-      here ∙ decides (λ same. there (ap (λ (f : Fault). f.number) (here ∙ sym (is_right (start s e) (due s e) same))))
+      here ∙ decides (λ same. there (ap (λ (f : Told). f.number) (here ∙ sym (is_right (start s e) (due s e) same))))
 
   pub right_here : r.number ≡ 0 → any (e + 1) (misplaced_at s) ≡ false
   unfolding misplaced_at
@@ -76,7 +75,7 @@ right_all s none_so_far =
     (λ (o : Option ℕ). or_else (tell 14 (plain (late_at s o))) (tell 15 (plain (early_at s o))))
     (first_done (misplaced_at s) 4 4 4 refl (omega arith) none_so_far))
 
-pub last_here : (s : List ℕ) → any 3 (misplaced_at s) ≡ false → (at ends : ℕ) → at ≡ start s 3 → ends ≡ due s 3 → (r : Fault) → r ≡ start_fault at ends → r ≡ starts_fault s
+pub last_here : (s : List ℕ) → any 3 (misplaced_at s) ≡ false → (at ends : ℕ) → at ≡ start s 3 → ends ≡ due s 3 → (r : Told) → r ≡ start_fault at ends → r ≡ starts_fault s
 last_here s so_far at ends is end r told =
     ⊎_elim
     (λ clear.

@@ -13,8 +13,7 @@ use Rattle.ids.specs.Limits.{most_places, most_transitions, most_events, most_pa
 use Rattle.numbers.specs.Number.{number}
 use Rattle.sheet.specs.Table.{table_length, start, count, limit, item_length, item, body_end, due}
 use Rattle.sheet.specs.Faults.{too_short, over_limit_at, over_limit, late, early, wrong_end, layout_faults, first_fault}
-use Rattle.sheet.specs.Told.{fault_at, no_fault, tell, plain, or_else, else_first, else_next}
-use Rattle.sheet.specs.declared.Fault.{Fault}
+use Rattle.sheet.specs.Told.{fault_at, no_fault, tell, plain, or_else, else_first, else_next, Told}
 use Rattle.layout.specs.Layout.{places_at, transitions_at, events_at, pairs_at, LayoutOf}
 use Rattle.layout.specs.Starts.{starts_fault}
 use Rattle.layout.specs.declared.Layout.{Layout}
@@ -88,7 +87,7 @@ module _ (s : List ℕ) (l : Layout) (is : LayoutOf s l) where
   ends_there e = sym (ap (λ (b : Bool). tell 4 (plain (not b))) (eq-eqb (length s) (body_end s 3) (e ∙ end_is)))
 
 -- 14 and 15 are looked for one after the other
-parts : (a b : Bool) (g : Fault) → or_else (tell 14 (plain a)) (or_else (tell 15 (plain b)) g) ≡ or_else (or_else (tell 14 (plain a)) (tell 15 (plain b))) g
+parts : (a b : Bool) (g : Told) → or_else (tell 14 (plain a)) (or_else (tell 15 (plain b)) g) ≡ or_else (or_else (tell 14 (plain a)) (tell 15 (plain b))) g
 unfolding or_else
 parts true b g = refl
 parts false true g = refl
@@ -102,19 +101,19 @@ last_one false = refl
 -- the fault that is told, by what each test said
 module _ (s : List ℕ) where
   -- f is what is told of the sheet
-  abbrev Told : Fault → Type 0
-  Told f = f ≡ first_fault layout_faults s
+  abbrev Due : Told → Type 0
+  Due f = f ≡ first_fault layout_faults s
 
-  pub fault_1 : too_short s ≡ true → Told (fault_at 1 0)
+  pub fault_1 : too_short s ≡ true → Due (fault_at 1 0)
   unfolding layout_faults first_fault or_else
   fault_1 a = simp a
 
   module _ (no-1 : too_short s ≡ false) where
-    pub fault_2 : over_limit s ≡ true → Told (fault_at 2 0)
+    pub fault_2 : over_limit s ≡ true → Due (fault_at 2 0)
     unfolding layout_faults first_fault or_else
     fault_2 a = simp (no-1, a)
 
-    module _ (no-2 : over_limit s ≡ false) (f : Fault) (is : f ≡ starts_fault s) where
+    module _ (no-2 : over_limit s ≡ false) (f : Told) (is : f ≡ starts_fault s) where
       -- 14 and 15 as one, then 4
       rest : first_fault layout_faults s ≡ or_else f (or_else (tell 4 (plain (wrong_end s))) no_fault)
       unfolding layout_faults first_fault starts_fault
@@ -122,11 +121,11 @@ module _ (s : List ℕ) where
           else_next (tell 1 (plain (too_short s))) _ (ap (λ (b : Bool). (tell 1 (plain b)).number) no-1)
           ∙ else_next (tell 2 (plain (over_limit s))) _ (ap (λ (b : Bool). (tell 2 (plain b)).number) no-2)
           ∙ parts (late s) (early s) _
-          ∙ ap (λ (g : Fault). or_else g (or_else (tell 4 (plain (wrong_end s))) no_fault)) (sym is)
+          ∙ ap (λ (g : Told). or_else g (or_else (tell 4 (plain (wrong_end s))) no_fault)) (sym is)
 
-      pub fault_starts : ¬ (f.number ≡ 0) → Told f
+      pub fault_starts : ¬ (f.number ≡ 0) → Due f
       fault_starts there = sym (rest ∙ else_first f _ there)
 
       -- what is told of the end
-      pub fault_end : f.number ≡ 0 → (g : Fault) → g ≡ tell 4 (plain (wrong_end s)) → Told g
+      pub fault_end : f.number ≡ 0 → (g : Told) → g ≡ tell 4 (plain (wrong_end s)) → Due g
       fault_end right g e = e ∙ sym (rest ∙ else_next f _ right ∙ last_one (wrong_end s))

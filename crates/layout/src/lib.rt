@@ -1,18 +1,20 @@
 // Where the bodies of a sheet start and how many items each has, read from its table of contents, and the faults of that table. Nothing here has a
 // loop.
 // That the table has 32 bytes is said here alone: whoever looks for an item goes by the layout.
+// Numbers of 32 bits are cast to `usize`, which no `From` does.
 #![tactic(auto)]
 
-ghost use Rattle.std.specs.Prelude.{ℕ, ◌<◌, ◌≤◌, List, ◌≡◌, length};
+ghost use Rattle.std.specs.Prelude.{ℕ, ◌<◌, ◌≤◌, List, ◌≡◌, length, IfOk};
 ghost use Rattle.sheet.specs.Table.{table_length, start, count};
 ghost use Rattle.sheet.specs.Faults.{too_short, over_limit, wrong_end, layout_faults, first_fault};
 ghost use Rattle.sheet.specs.Told.{tell, plain};
-ghost use Rattle.layout.specs.Layout.{LayoutOf, FourBytes, WithinLimits};
+ghost use Rattle.sheet.specs.Answered.{told_by};
+ghost use Rattle.layout.specs.Layout.{LayoutOf, LaidBy, FourBytes, WithinLimits};
 ghost use Rattle.layout.specs.Starts.{start_fault, starts_fault};
 
 use ids::{EVENTS, PAIRS, PLACES, TRANSITIONS};
 use numbers::get32;
-use sheet::{Fault, no_fault, plain_fault};
+use sheet::Fault;
 
 // The bytes of the table.
 pub const TABLE: usize = 32;
@@ -21,6 +23,7 @@ pub const TABLE: usize = 32;
 pub const LONGEST: usize = TABLE + 4 * PLACES + 4 * PLACES * TRANSITIONS + 2 * EVENTS + 4 * PAIRS;
 
 // How many items each body has, and where it starts.
+// Fields by name, as the sheet's rules name them, and not two rows of four.
 #[derive(Clone, Copy)]
 pub struct Layout {
     pub places: usize,
@@ -34,6 +37,7 @@ pub struct Layout {
 }
 
 // The start of entry e's body.
+// The two numbers of an entry differ in an offset; each has its own definition.
 fn entry_start(s: &[u8], e: usize) -> usize
     requires { (e < 4) × (table_length ≤ length s.now) }
     ensures { (result ≡ start s.now e) × (result < 4294967296) }
@@ -66,22 +70,6 @@ pub fn layout_of(s: &[u8]) -> Layout
     }
 }
 
-// A layout with no items, for a sheet that has none.
-pub fn no_layout() -> Layout
-    ensures { WithinLimits result }
-{
-    Layout {
-        places: 0,
-        transitions: 0,
-        events: 0,
-        pairs: 0,
-        places_at: 0,
-        transitions_at: 0,
-        events_at: 0,
-        pairs_at: 0,
-    }
-}
-
 // 1: fewer bytes than the table has.
 fn too_short(s: &[u8]) -> bool
     ensures { result ≡ too_short s.now }
@@ -106,64 +94,54 @@ fn over_limit(l: Layout) -> bool
 }
 
 // 14: a body starts late, after where it is due. 15: it starts early.
-fn start_fault(at: usize, due: usize) -> Fault
-    ensures { result ≡ start_fault at due }
+fn check_start(at: usize, due: usize) -> Result<(), Fault>
+    ensures { told_by result ≡ start_fault at due }
 {
     if at > due {
-        return plain_fault(14);
+        return Err(Fault::StartsLate);
     }
     if at < due {
-        return plain_fault(15);
+        return Err(Fault::StartsEarly);
     }
-    no_fault()
+    Ok(())
 }
 
 // 14 and 15, decided at the first body whose start isn't the end of what precedes it.
-fn misplaced_body(l: Layout) -> Fault
+fn check_starts(l: Layout) -> Result<(), Fault>
     requires { WithinLimits l × FourBytes l }
-    ensures { (s : List ℕ) → LayoutOf s l → result ≡ starts_fault s }
+    ensures { (s : List ℕ) → LayoutOf s l → told_by result ≡ starts_fault s }
 {
-    let places = start_fault(l.places_at, TABLE);
-    if places.number != 0 {
-        return places;
-    }
-    let transitions = start_fault(l.transitions_at, l.places_at + 4 * l.places);
-    if transitions.number != 0 {
-        return transitions;
-    }
-    let events = start_fault(l.events_at, l.transitions_at + 4 * l.places * l.transitions);
-    if events.number != 0 {
-        return events;
-    }
-    start_fault(l.pairs_at, l.events_at + 2 * l.events)
+    check_start(l.places_at, TABLE)?;
+    check_start(l.transitions_at, l.places_at + 4 * l.places)?;
+    check_start(l.events_at, l.transitions_at + 4 * l.places * l.transitions)?;
+    check_start(l.pairs_at, l.events_at + 2 * l.events)
 }
 
 // 4: the sheet doesn't end with its last body.
-fn wrong_end(s: &[u8], l: Layout) -> Fault
+fn check_end(s: &[u8], l: Layout) -> Result<(), Fault>
     requires layout_of { LayoutOf s.now l }
     requires within_limits { WithinLimits l × FourBytes l }
-    ensures { result ≡ tell 4 (plain (wrong_end s.now)) }
+    ensures { told_by result ≡ tell 4 (plain (wrong_end s.now)) }
 {
     if s.len() != l.pairs_at + 4 * l.pairs {
-        return plain_fault(4);
+        return Err(Fault::WrongEnd);
     }
-    no_fault()
+    Ok(())
 }
 
-// The first of the faults of the layout: 1, 2, 14 or 15, and 4.
-pub fn layout_fault(s: &[u8]) -> Fault
-    ensures { result ≡ first_fault layout_faults s.now }
+// The layout of a sheet, or the first of its faults: 1, 2, 14 or 15, and 4.
+pub fn find_layout(s: &[u8]) -> Result<Layout, Fault>
+    ensures fault { told_by result ≡ first_fault layout_faults s.now }
+    ensures laid { IfOk result (LaidBy s.now) }
 {
     if too_short(s) {
-        return plain_fault(1);
+        return Err(Fault::TooShort);
     }
     let l = layout_of(s);
     if over_limit(l) {
-        return plain_fault(2);
+        return Err(Fault::OverLimit);
     }
-    let misplaced = misplaced_body(l);
-    if misplaced.number != 0 {
-        return misplaced;
-    }
-    wrong_end(s, l)
+    check_starts(l)?;
+    check_end(s, l)?;
+    Ok(l)
 }

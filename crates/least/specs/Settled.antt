@@ -16,7 +16,7 @@ use Rattle.theory.specs.Skeleton.{before_earlier}
 use Rattle.theory.specs.Missing.{missing_opening}
 use Rattle.theory.specs.Tokenflow.{Tokenflow, Settled, least_within, settled_least}
 use Rattle.theory.proofs.Tokenflow.{settled_smallest}
-use Rattle.tokenflow.specs.Rows.{fed_by, Rows, rows}
+use Rattle.tokenflow.specs.Rows.{fed_by, Rows}
 use Rattle.tokenflow.specs.Flowing.{Flowing, Kept, given_in, taken_in, lacking}
 use Rattle.drawing.specs.Moves.{Moved}
 use Rattle.search.specs.Row.{members}
@@ -39,10 +39,9 @@ pub record PlaceSettled (N : Net) (P : Plan) (p enough : ℕ) (pred : List ℕ) 
   pub set : enough < lacks → 0 < missing N P p → smallest N P p ≡ members givers
 
 -- so it is for every place that has these rows
-abbrev pub Settles : ℕ → List ℕ → List ℕ → List ℕ → List ℕ → List ℕ → List ℕ → List ℕ → List ℕ → ℕ → ℕ → Type 0
-Settles n pred amount fed free free' share share' givers enough lacks =
-    (N : Net) (P : Plan) (p : ℕ) → PlaceRows N P p n pred free share
-    → PlaceSettled N P p enough pred (rows amount fed free' share') givers lacks
+abbrev pub Settles : ℕ → List ℕ → Rows → Rows → List ℕ → ℕ → ℕ → Type 0
+Settles n pred r r' givers enough lacks =
+    (N : Net) (P : Plan) (p : ℕ) → PlaceRows N P p n pred r.free r.share → PlaceSettled N P p enough pred r' givers lacks
 
 -- It tells what is missing if what is enough doesn't pass the opening count; with 0 for what is enough, it is the least opening count.
 module _ (N : Net) (P : Plan) (p enough : ℕ) (pred : List ℕ) (r : Rows) (givers : List ℕ) (lacks : ℕ) (s : PlaceSettled N P p enough pred r givers lacks) where

@@ -5,48 +5,52 @@
 ghost use Rattle.std.specs.Prelude.{◌≤◌, ◌≡◌};
 ghost use Rattle.finite.specs.Sum.{sum_of};
 ghost use Rattle.ids.specs.Limits.{most_events};
-ghost use Rattle.least.specs.PlaceRows.{RowsFor, Small, SomePlace};
+ghost use Rattle.least.specs.PlaceRows.{RowsFor, Small, SomePlace, Unfed, UnfedFrom};
 ghost use Rattle.least.specs.Settled.{Settles};
 
 use drawing::draw_all;
-use filling::put_words;
 use ids::{EVENTS, ROWS, WORDS};
 use settle::settle;
+use tokenflow::Flow;
 
-// The sum of the first n numbers of a row.
-fn total(row: &[u32; EVENTS], n: usize) -> u32
+// What all takers lack: the sum of the first n shares.
+// A line over the library's sum, with the bound that holds here; `settle` and `flow_sums` have theirs.
+fn total(flow: &Flow, n: usize) -> u32
     requires n_le_most_events { n ≤ most_events }
-    requires small { Small row.now n }
-    ensures { result ≡ sum_of row.now n }
+    requires small { Small flow.now.share n }
+    ensures { result ≡ sum_of flow.now.share n }
 {
-    let mut sum: u32 = 0;
-    for i in 0..n {
-        sum += row[i];
-    }
-    sum
+    let share = &*flow.share;
+    share[..n].iter().sum()
 }
 
-// Settles a place whose gives stand in `free` and whose takes stand in `share`. Returns what the takers lack at last: the least opening
-// count, or less than it takes to pass `enough`, at which it may stop. So 0 asks for the least opening count itself, and the opening count
-// asks only for what is missing. All events are marked as sources at first; those that have nothing free are unmarked when they are met.
+// Clears the marks of the givers below n, so that nobody is fed.
+fn clear(fed: &mut [u32; ROWS], n: usize)
+    requires n_le_most_events { n ≤ most_events }
+    requires unfed { UnfedFrom n fed.old }
+    ensures { Unfed fed.new }
+{
+    fed[..n * WORDS].fill(0);
+}
+
+// Settles a place whose gives stand in `flow.free` and whose takes stand in `flow.share`. Returns what the takers lack at last: the least
+// opening count, or less than it takes to pass `enough`, at which it may stop. So 0 asks for the least opening count itself, and the opening
+// count asks only for what is missing. All events are marked as sources at first; those that have nothing free are unmarked when they are met.
 pub fn settle_rows(
     pred: &[u32; ROWS],
-    order: &[usize; EVENTS],
-    amount: &mut [u32],
-    fed: &mut [u32; ROWS],
-    free: &mut [u32; EVENTS],
-    share: &mut [u32; EVENTS],
+    ranked: &[usize; EVENTS],
+    flow: &mut Flow,
     givers: &mut [u32; WORDS],
     enough: u32,
     n: usize,
 ) -> u32
-    requires rows_for { RowsFor n amount.old fed.old }
-    requires some_place { SomePlace n pred.now free.old share.old }
-    ensures { Settles n pred.now amount.new fed.new free.old free.new share.old share.new givers.new enough result }
+    requires rows_for { RowsFor n flow.old.amount flow.old.fed }
+    requires some_place { SomePlace n pred.now flow.old.free flow.old.share }
+    ensures { Settles n pred.now flow.old flow.new givers.new enough result }
 {
-    let mut sources = [4294967295u32; WORDS];
-    put_words(fed, n * WORDS, 0);
-    draw_all(pred, order, amount, fed, free, share, &mut sources, n);
-    settle(pred, amount, fed, free, share, givers, enough, n);
-    total(share, n)
+    let mut sources = [u32::MAX; WORDS];
+    clear(flow.fed, n);
+    draw_all(pred, ranked, flow, &mut sources, n);
+    settle(pred, flow, givers, enough, n);
+    total(flow, n)
 }

@@ -3,7 +3,7 @@ use Rattle.std.specs.Prelude.{ℕ, zero, suc, ◌≤◌, List, ◌≡◌, refl, 
 use Rattle.std.proofs.Common.{ap, ◌∙◌}
 use Rattle.plan.specs.Net.{Net, Plan}
 use Rattle.sheet.specs.Faults.{fault_of}
-use Rattle.sheet.specs.declared.Fault.{Fault}
+use Rattle.sheet.specs.Told.{Told}
 use Rattle.sheet.specs.Items.{net_of, plan_of}
 use Rattle.sheet.specs.Enough.{enough_bytes, enough}
 use Rattle.sheet.proofs.Enough.{long_faulty, by_length, fault_enough}
@@ -18,7 +18,7 @@ fault_alone (suc k) N M P Q some = refl
 listing_long : (s : List ℕ) → enough_bytes ≤ length s → listing_of (enough s) ≡ listing_of s
 unfolding listing_of
 listing_long s long =
-    ap (λ (f : Fault). text_of f.number (net_of (enough s)) (plan_of (enough s))) (fault_enough s)
+    ap (λ (f : Told). text_of f.number (net_of (enough s)) (plan_of (enough s))) (fault_enough s)
     ∙ fault_alone (fault_of s).number (net_of (enough s)) (net_of s) (plan_of (enough s)) (plan_of s) (long_faulty s long)
 
 pub listing_enough : (s : List ℕ) → listing_of (enough s) ≡ listing_of s

@@ -1,41 +1,42 @@
 -- A text of known length copied into a row, or refused.
-use Prim.Native.Nat.{ℕ, ◌≤◌, ◌<◌}
-use native.Mathlib.Omega.{arith}
-use mathlib.Core.List.{List, ◌++◌}
-use mathlib.Core.Path.{◌≡◌, refl, sym, ap, ◌∙◌}
-use lib.ListN.{length, take, drop}
-use Rattle.calls.proofs.Call.{short_row, long_row}
-use Rattle.calls.specs.declared.Written.TheVariants.{Refused, Length}
-use Rattle.calls.specs.Length.{says}
+use Rattle.std.specs.Prelude.{ℕ, List, ◌++◌, ◌≡◌, refl, length, take, drop, ltb}
+use Rattle.std.proofs.Common.{arith, sym, ap, ◌∙◌}
+use Rattle.calls.proofs.Refusal.{row_decides}
 use Rattle.calls.specs.Overwritten.{at_fault, at_none}
-use Rattle.calls.specs.Said.{answer, said_answer, told_refusal}
-use Rattle.sheet.specs.Told.{no_fault}
+use Rattle.calls.specs.Said.{answer, refusal, said_err, said_ok}
+use Rattle.sheet.specs.Answered.{told, told_some}
+use Rattle.sheet.specs.Told.{Told, no_fault, tell, plain}
 use Rattle.sheet.specs.declared.Fault.{Fault}
 use Rattle.text.specs.Put.{Put, put_front}
 use Rattle.lines.specs.Listing.{listing_of}
 use Rattle.listed.specs.Listed.{list_fault, list_says, row_after}
 
-module _ (s row old text : List ℕ) (n : ℕ) (put : Put old text 0 (listing_of s) n) where
+module _ (s row : List ℕ) {old new : List ℕ} {end : ℕ} (n : ℕ) (at : n ≡ end) (put : Put old new 0 (listing_of s) end) where
+  size : n ≡ length (listing_of s)
+  size = omega (arith, at, put.ends)
+
+  due : {t : Told} → t ≡ tell 13 (plain (ltb (length row) n)) → t ≡ list_fault s row
+  unfolding list_fault
+  due is = row_decides no_fault row (length (listing_of s)) refl (rw (← size) is)
+
   -- the row is too short
-  pub too_short : length row < n → (f : Fault) → f.number ≡ 13 → f.item ≡ 0 → (says (Refused f) ≡ list_says s row) × (row ≡ row_after s row)
-  unfolding list_says row_after list_fault
-  too_short l f number item =
-      let is = short_row no_fault row (length (listing_of s)) refl (omega (arith, put.ends)) in
-      let number_is = ap (λ (g : Fault). g.number) is in
-      let there : ¬ ((list_fault s row).number ≡ 0) = λ z. omega (arith, number_is) in
-      (told_refusal _ (number ∙ sym number_is) (item ∙ ap (λ (g : Fault). g.item) (sym is)) there, at_fault (list_fault s row).number _ row there)
+  module _ (f : Fault) (is : told f ≡ tell 13 (plain (ltb (length row) n))) where
+    pub refused : refusal (told f) ≡ list_says s row
+    unfolding list_says
+    refused = said_err f (list_fault s row) (length (listing_of s)) (due is)
+
+    pub row_kept : row ≡ row_after s row
+    unfolding row_after
+    row_kept = at_fault (list_fault s row).number _ row (λ z. told_some f (ap (λ (t : Told). t.number) (due is) ∙ z))
 
   -- it has room
-  pub copied : (new : List ℕ) (end : ℕ) → n ≤ length row → Put row new 0 (take n text) end → (says (Length n) ≡ list_says s row) × (new ≡ row_after s row)
-  unfolding list_says row_after list_fault
-  copied new end l h =
-      let clear = ap (λ (g : Fault). g.number) (long_row no_fault row (length (listing_of s)) refl (omega (arith, put.ends))) in
-      let whole : take n text ≡ listing_of s = put_front old text 0 (listing_of s) n put in
-      let all : n ≡ length (listing_of s) = omega (arith, put.ends) in
-      let last : end ≡ length (listing_of s) = omega (arith, h.ends, ap length whole) in (
-        ap answer all ∙ sym (said_answer (list_fault s row) (length (listing_of s)) clear),
-        h.is
-            ∙ ap (λ (x : List ℕ). x ++ drop end row) whole
-            ∙ ap (λ (k : ℕ). listing_of s ++ drop k row) last
-            ∙ at_none (list_fault s row).number (listing_of s ++ drop (length (listing_of s)) row) row clear,
-      )
+  module _ (none : no_fault ≡ tell 13 (plain (ltb (length row) n))) where
+    pub written : answer n ≡ list_says s row
+    unfolding list_says
+    written = rw size (said_ok (list_fault s row) (length (listing_of s)) (due none))
+
+    pub row_written : (text : List ℕ) → text ≡ take end new → text ++ drop n row ≡ row_after s row
+    unfolding row_after
+    row_written text is =
+        rw (is ∙ put_front _ _ _ _ _ put, size)
+        (at_none (list_fault s row).number (listing_of s ++ drop (length (listing_of s)) row) row (ap (λ (t : Told). t.number) (sym (due none))))

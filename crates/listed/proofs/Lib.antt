@@ -1,2 +1,2 @@
 mod ByFault
-mod Copying
+pub mod Copying

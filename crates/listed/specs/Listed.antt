@@ -3,12 +3,11 @@ use Rattle.std.specs.Prelude.{ℕ, List, ◌++◌, length, drop}
 use Rattle.calls.specs.Call.{row_fault}
 use Rattle.calls.specs.Overwritten.{unless_fault}
 use Rattle.calls.specs.Said.{Said, unless_refused}
-use Rattle.sheet.specs.Told.{no_fault}
-use Rattle.sheet.specs.declared.Fault.{Fault}
+use Rattle.sheet.specs.Told.{Told, no_fault}
 use Rattle.lines.specs.Listing.{listing_of}
 
 -- A faulty sheet has a listing too, which tells its fault. So the one fault of the call is 13: the row is shorter than the text.
-unfoldable pub list_fault : List ℕ → List ℕ → Fault
+unfoldable pub list_fault : List ℕ → List ℕ → Told
 list_fault s row = row_fault no_fault row (length (listing_of s))
 
 -- what the call has to say

@@ -5,37 +5,30 @@
 // in any case.
 #![tactic(auto)]
 
-use calls::Written;
 use layout::LONGEST;
 use lines::LISTING_ROOM;
 use listed::write_listing;
-use standard_input::{Input, read_sheet, report};
+use standard_input::{read_sheet, report};
 use std::io::Write;
 
-fn print(rt: &HostRuntime, text: &[u8], n: usize) {
-    if n <= text.len() {
-        if let Err(error) = rt.stdout().write_all(&text[0..n]) {
-            report(rt, "listing", "standard output can't be written", error);
-        }
+fn print(rt: &HostRuntime, text: &[u8]) {
+    if let Err(error) = rt.stdout().write_all(text) {
+        report(rt, "listing", "standard output can't be written", error);
     }
 }
 
-fn list(rt: &HostRuntime, sheet: &[u8], n: usize) {
+// Any listing has room in the row, so none is refused.
+fn list(rt: &HostRuntime, sheet: &[u8]) {
     let mut text = [0u8; LISTING_ROOM];
-    if n <= sheet.len() {
-        let listed = write_listing(&sheet[0..n], &mut text);
-        match listed {
-            Written::Refused(_f) => {}
-            Written::Length(length) => print(rt, &text, length),
-        }
+    if let Ok(n) = write_listing(sheet, &mut text) {
+        print(rt, &text[..n]);
     }
 }
 
 fn main(rt: HostRuntime) {
     let mut sheet = [0u8; LONGEST + 1];
-    let input = read_sheet(&mut rt.stdin(), &mut sheet);
-    match input {
-        Input::Bytes(n) => list(&rt, &sheet, n),
-        Input::Failed(error) => report(&rt, "listing", "standard input can't be read", error),
+    match read_sheet(&mut rt.stdin(), &mut sheet) {
+        Ok(n) => list(&rt, &sheet[..n]),
+        Err(error) => report(&rt, "listing", "standard input can't be read", error),
     }
 }

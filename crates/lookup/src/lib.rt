@@ -1,5 +1,8 @@
 // The items of a sheet, read from its bytes by place, transition and event numbers that cannot be mixed up. An item stands in its body after
-// those with lower numbers; the sheet's layout says where the body starts. The layout has no fault.
+// those with lower numbers; the sheet's layout says where the body starts. The layout has no fault. The functions take plain bytes and the layout, as the
+// rules of the work ask of the core; the reader is the layer over them.
+// Numbers of 32 bits are cast to `usize`, which no `From` does.
+// Two of a kind, as takes and gives, differ in an offset, and are kept apart by name, as the definitions are.
 #![tactic(auto)]
 
 ghost use Rattle.std.specs.Prelude.{◌+◌, ◌*◌, ◌<◌, ◌≤◌, ◌≡◌};

@@ -9,7 +9,8 @@ use borrow.Author.Tests.{eq-eqb, ne_eqb, lt-ltb, le-ltb}
 use lib.Arith.{digits_div, digits_mod}
 use lib.Bits.{bit_and, bit_or}
 use lib.Dec.{T, eqb, ltb, eqb→eq, ltb→lt, lit<}
-use lib.ListN.{length, get_or, set, length-set}
+use lib.ListN.{length, get_or, set, take, drop, length-set}
+use Rattle.std.proofs.lemmas.List.{get_or-take, get_or-drop, length-take, length-drop}
 use lib.Pow.{shl_exact}
 use lib.Seq.{get_or-set_same, get_or-set_other}
 use mir.Facts.{and_yes, yes_and, yes_eqb, yes_ltb, eqb_no}
@@ -190,3 +191,13 @@ done old new from into k e g =
       size = g.size;
       marks = λ u v h. g.marks u v h ∙ rw (lt-ltb (v / 32) k (omega arith)) refl;
     }
+
+-- the words of a row
+abbrev pub row_part : List ℕ → ℕ → List ℕ
+row_part rows i = take ((i + 1) * 8 - i * 8) (drop (i * 8) rows)
+
+pub part_long : (rows : List ℕ) (i : ℕ) → HasRow rows i → length (row_part rows i) ≡ 8
+part_long rows i has = omega (arith, has, length-take ((i + 1) * 8 - i * 8) (drop (i * 8) rows), length-drop (i * 8) rows)
+
+pub part_word : (rows : List ℕ) (i k : ℕ) → k < 8 → get_or (row_part rows i) k 0 ≡ get_or rows (i * 8 + k) 0
+part_word rows i k l = get_or-take ((i + 1) * 8 - i * 8) (drop (i * 8) rows) k 0 (omega (arith, l)) ∙ get_or-drop (i * 8) rows k 0

@@ -19,6 +19,7 @@ pub fn is_marked(rows: &[u32], i: usize, j: usize) -> bool
     (rows[i * WORDS + j / BITS] >> (j % BITS)) % 2 == 1
 }
 
+// Setting and removing a mark differ in the operation on one word: a function for both would be no plainer.
 pub fn mark(rows: &mut [u32], i: usize, j: usize)
     requires has_row { HasRow rows.old i }
     requires j_lt_most_events { j < most_events }
@@ -35,7 +36,7 @@ pub fn unmark(rows: &mut [u32], i: usize, j: usize)
     rows[i * WORDS + j / BITS] &= !(1u32 << (j % BITS));
 }
 
-// Joins the row `from` into the row `into`.
+// Joins the row `from` into the row `into`. Both lie in one slice, so no iterator lends the one while the other is written.
 pub fn join(rows: &mut [u32], from: usize, into: usize)
     requires has_row { HasRow rows.old from }
     requires has_row_2 { HasRow rows.old into }
@@ -52,9 +53,11 @@ pub fn meets(a: &[u32], i: usize, b: &[u32], j: usize) -> bool
     requires has_row_2 { HasRow b.now j }
     ensures { result ≡ meeting a.now i b.now j }
 {
+    let row = &a[i * WORDS..(i + 1) * WORDS];
+    let other = &b[j * WORDS..(j + 1) * WORDS];
     let mut both: u32 = 0;
-    for k in 0..WORDS {
-        both |= a[i * WORDS + k] & b[j * WORDS + k];
+    for (x, y) in row.iter().zip(other) {
+        both |= x & y;
     }
     both != 0
 }

@@ -6,78 +6,65 @@
 
 mod words;
 
-ghost use Rattle.std.specs.Prelude.{◌<◌};
-ghost use Rattle.ids.specs.Limits.{most_pairs};
+ghost use Rattle.std.specs.Prelude.{◌≤◌, length};
 
-use calls::Written;
-use ids::PAIRS;
-use layout::{LONGEST, Layout, TABLE, layout_of};
+use ids::{Event, PAIRS};
+use layout::LONGEST;
 use mending::mend;
-use numbers::get16;
+use reader::read_laid;
+use reasons::Reason;
 use sheet::Fault;
-use standard_input::{Input, read_sheet, report};
+use standard_input::{read_sheet, report};
 use std::io::Write;
+use text::Output;
 use words::{put_dropped, put_refused};
 
 // The room of a line on standard error.
 const LINE: usize = 100;
 
 // Where standard error can't be written, nothing is left to be done.
-fn say(rt: &HostRuntime, line: &[u8], n: usize) {
-    if n <= line.len() {
-        let _ = rt.stderr().write_all(&line[0..n]);
-    }
+fn say(rt: &HostRuntime, out: &Output)
+    requires { out.now.at ≤ length out.now.row }
+{
+    let row = &*out.row;
+    let _ = rt.stderr().write_all(&row[..out.at]);
 }
 
 fn refuse(rt: &HostRuntime, f: Fault) {
     let mut line = [0u8; LINE];
-    let n = put_refused(&mut line, f);
-    say(rt, &line, n);
+    let mut out = Output {
+        row: &mut line,
+        at: 0,
+    };
+    put_refused(&mut out, f);
+    say(rt, &out);
 }
 
-// Says of pair i why it was dropped, if it was.
-fn tell_pair(rt: &HostRuntime, sheet: &[u8], l: Layout, i: usize, reason: u8)
-    requires { i < most_pairs }
-{
-    if reason == 0 {
-        return;
-    }
+// Says why the pair number i, from a to b, was dropped.
+fn tell_pair(rt: &HostRuntime, i: usize, a: Event, b: Event, reason: Reason) {
     let mut line = [0u8; LINE];
-    let start = l.pairs_at;
-    if start <= sheet.len() {
-        let pairs = &sheet[start..];
-        if 4 * i + 4 <= pairs.len() {
-            let n = put_dropped(
-                &mut line,
-                i as u32,
-                get16(pairs, 4 * i),
-                get16(pairs, 4 * i + 2),
-                reason,
-            );
-            say(rt, &line, n);
-        }
-    }
+    let mut out = Output {
+        row: &mut line,
+        at: 0,
+    };
+    put_dropped(&mut out, i, a, b, reason);
+    say(rt, &out);
 }
 
-// Says of each dropped pair why. A sheet that was mended has a table.
-fn tell_reasons(rt: &HostRuntime, sheet: &[u8], reasons: &[u8; PAIRS]) {
-    if sheet.len() < TABLE {
-        return;
-    }
-    let l = layout_of(sheet);
-    for i in 0..PAIRS {
-        if i < l.pairs {
-            tell_pair(rt, sheet, l, i, reasons[i]);
+// Says of each dropped pair why. A sheet that was mended has a layout without fault.
+fn tell_reasons(rt: &HostRuntime, bytes: &[u8], reasons: &[u8; PAIRS]) {
+    if let Ok(sheet) = read_laid(bytes) {
+        for i in 0..sheet.pairs() {
+            if let Some(reason) = Reason::said(reasons[i]) {
+                tell_pair(rt, i, sheet.earlier(i), sheet.later(i), reason);
+            }
         }
     }
 }
 
 // Whether the clean sheet was printed; where it wasn't, standard error says why.
-fn print(rt: &HostRuntime, clean: &[u8], n: usize) -> bool {
-    if n > clean.len() {
-        return false;
-    }
-    match rt.stdout().write_all(&clean[0..n]) {
+fn print(rt: &HostRuntime, clean: &[u8]) -> bool {
+    match rt.stdout().write_all(clean) {
         Ok(()) => true,
         Err(error) => {
             report(rt, "mend", "standard output can't be written", error);
@@ -89,28 +76,20 @@ fn print(rt: &HostRuntime, clean: &[u8], n: usize) -> bool {
 fn mend_sheet(rt: &HostRuntime, sheet: &[u8]) {
     let mut clean = [0u8; LONGEST];
     let mut reasons = [0u8; PAIRS];
-    let mended = mend(sheet, &mut clean, &mut reasons);
-    match mended {
-        Written::Refused(f) => refuse(rt, f),
-        Written::Length(n) => {
-            if print(rt, &clean, n) {
+    match mend(sheet, &mut clean, &mut reasons) {
+        Err(fault) => refuse(rt, fault),
+        Ok(n) => {
+            if n <= clean.len() && print(rt, &clean[..n]) {
                 tell_reasons(rt, sheet, &reasons);
             }
         }
     }
 }
 
-fn mend_part(rt: &HostRuntime, row: &[u8], n: usize) {
-    if n <= row.len() {
-        mend_sheet(rt, &row[0..n]);
-    }
-}
-
 fn main(rt: HostRuntime) {
     let mut row = [0u8; LONGEST + 1];
-    let input = read_sheet(&mut rt.stdin(), &mut row);
-    match input {
-        Input::Bytes(n) => mend_part(&rt, &row, n),
-        Input::Failed(error) => report(&rt, "mend", "standard input can't be read", error),
+    match read_sheet(&mut rt.stdin(), &mut row) {
+        Ok(n) => mend_sheet(&rt, &row[..n]),
+        Err(error) => report(&rt, "mend", "standard input can't be read", error),
     }
 }

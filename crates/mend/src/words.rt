@@ -1,44 +1,51 @@
 // The lines that `mend` says on standard error.
-ghost use Rattle.std.specs.Prelude.{◌+◌, ◌≤◌, length};
+ghost use Rattle.std.specs.Prelude.{◌+◌, ◌≤◌, ◌≡◌, length};
 
+use ids::Event;
+use reasons::Reason;
 use sheet::Fault;
-use text::{put_field, put_word};
+use text::Output;
+
+// A number of 2 bytes, or of a pair: it always fits.
+fn number(n: usize) -> u32 {
+    u32::try_from(n).unwrap_or(u32::MAX)
+}
 
 // Why a pair was dropped.
-fn put_reason(row: &mut [u8], at: usize, reason: u8) -> usize
-    requires { at + 40 ≤ length row.old }
+fn put_reason(out: &mut Output, reason: Reason)
+    requires { out.old.at + 40 ≤ length out.old.row }
+    ensures { (out.new.at ≤ out.old.at + 40) × (length out.new.row ≡ length out.old.row) }
 {
-    if reason == 1 {
-        return put_word(row, at, b"it names no event\n");
+    match reason {
+        Reason::NoEvent => out.word(b"it names no event\n"),
+        Reason::OneEvent => out.word(b"it is of an event with itself\n"),
+        Reason::Repeat => out.word(b"it repeats an earlier pair\n"),
     }
-    if reason == 2 {
-        return put_word(row, at, b"it is of an event with itself\n");
-    }
-    put_word(row, at, b"it repeats an earlier pair\n")
 }
 
 // Pair i, from event a to event b, and why it was dropped.
-pub fn put_dropped(row: &mut [u8], i: u32, a: u32, b: u32, reason: u8) -> usize
-    requires { 100 ≤ length row.old }
+pub fn put_dropped(out: &mut Output, i: usize, a: Event, b: Event, reason: Reason)
+    requires { out.old.at + 100 ≤ length out.old.row }
+    ensures { out.new.at ≤ length out.new.row }
 {
-    let pair = put_field(row, 0, b"mend: pair ", i);
-    let earlier = put_field(row, pair, b" (", a);
-    let later = put_field(row, earlier, b", ", b);
-    let end = put_word(row, later, b") dropped: ");
-    put_reason(row, end, reason)
+    out.field(b"mend: pair ", number(i));
+    out.field(b" (", number(a.0));
+    out.field(b", ", number(b.0));
+    out.word(b") dropped: ");
+    put_reason(out, reason);
 }
 
 // The fault of a sheet that is refused, and its item for a fault that has one: 5, 6 or 7.
-pub fn put_refused(row: &mut [u8], f: Fault) -> usize
-    requires { 100 ≤ length row.old }
+pub fn put_refused(out: &mut Output, fault: Fault)
+    requires { out.old.at + 100 ≤ length out.old.row }
+    ensures { out.new.at ≤ length out.new.row }
 {
-    let end = put_field(row, 0, b"mend: refused ", f.number);
-    if f.number < 5 {
-        return put_word(row, end, b"\n");
+    out.field(b"mend: refused ", fault.number());
+    match fault {
+        Fault::OverOpening(item) | Fault::OverWeight(item) | Fault::NoTransition(item) => out.field(
+            b" item ", item,
+        ),
+        _ => {}
     }
-    if f.number > 7 {
-        return put_word(row, end, b"\n");
-    }
-    let item = put_field(row, end, b" item ", f.item);
-    put_word(row, item, b"\n")
+    out.word(b"\n");
 }

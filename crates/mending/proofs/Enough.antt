@@ -7,12 +7,11 @@ use Rattle.calls.proofs.Call.{lower_first}
 use Rattle.calls.specs.Overwritten.{at_fault}
 use Rattle.calls.specs.Said.{refusal, said_refusal}
 use Rattle.sheet.specs.Chain.{first_both}
-use Rattle.sheet.specs.declared.Fault.{Fault}
+use Rattle.sheet.specs.Told.{Told, else_first}
 use Rattle.sheet.specs.Enough.{enough_bytes, enough}
 use Rattle.sheet.proofs.Enough.{by_length, too_long, size, layout_enough}
 use Rattle.sheet.specs.Faults.{layout_faults, number_faults, first_fault}
 use Rattle.sheet.specs.Table.{pairs_of}
-use Rattle.sheet.specs.Told.{else_first}
 use Rattle.mending.specs.Mended.{kept_faults, mend_faults, sheet_fault, mend_fault, mend_says, clean_after, reasons_after}
 use Rattle.mending.specs.Enough.{SameMending}
 
@@ -25,12 +24,12 @@ module _ (s clean reasons : List ℕ) (there : ¬ ((first_fault layout_faults s)
   fault_is : mend_fault s clean reasons ≡ first_fault layout_faults s
   unfolding mend_fault
   fault_is =
-      let some : ¬ ((sheet_fault s).number ≡ 0) = λ z. there (ap (λ (f : Fault). f.number) (sym sheet_is) ∙ z) in
+      let some : ¬ ((sheet_fault s).number ≡ 0) = λ z. there (ap (λ (f : Told). f.number) (sym sheet_is) ∙ z) in
       let first = lower_first (sheet_fault s) reasons (pairs_of s) some in
-      lower_first (row_fault (sheet_fault s) reasons (pairs_of s)) clean (length s) (λ z. some (ap (λ (f : Fault). f.number) (sym first) ∙ z)) ∙ first ∙ sheet_is
+      lower_first (row_fault (sheet_fault s) reasons (pairs_of s)) clean (length s) (λ z. some (ap (λ (f : Told). f.number) (sym first) ∙ z)) ∙ first ∙ sheet_is
 
   refused : ¬ ((mend_fault s clean reasons).number ≡ 0)
-  refused z = there (ap (λ (f : Fault). f.number) (sym fault_is) ∙ z)
+  refused z = there (ap (λ (f : Told). f.number) (sym fault_is) ∙ z)
 
   said_is : mend_says s clean reasons ≡ refusal (first_fault layout_faults s)
   unfolding mend_says

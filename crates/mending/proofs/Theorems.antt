@@ -16,7 +16,7 @@ use Rattle.reasons.proofs.Laws.{kept_before, all_kept, same_pairs, no_kept_cycle
 use Rattle.reasons.specs.Reasons.{reason_at, kept_plan}
 use Rattle.sheet.specs.Clear.{good_of}
 use Rattle.sheet.proofs.Clear.{no_fault_lem}
-use Rattle.sheet.specs.declared.Fault.{Fault}
+use Rattle.sheet.specs.Told.{Told}
 use Rattle.sheet.specs.Faultless.{Faultless}
 use Rattle.sheet.proofs.Faultless.{faultless}
 use Rattle.sheet.specs.Faults.{fault_of}
@@ -99,8 +99,8 @@ module _ (s clean reasons : List ℕ) where
       → (mend_says s clean reasons ≡ answer (length s)) × (take (length s) (clean_after s clean reasons) ≡ s) × ((i : ℕ) → i < pairs_of s → get_or (reasons_after s clean reasons) i 0 ≡ 0)
   unfolding mend_says mend_fault reasons_after
   told_again same enough room =
-      let first = long_row (sheet_fault s) reasons (pairs_of s) (ap (λ (f : Fault). f.number) same.taken) enough in
-      let clear = ap (λ (f : Fault). f.number) (long_row (row_fault (sheet_fault s) reasons (pairs_of s)) clean (length s) (ap (λ (f : Fault). f.number) first) room) in (
+      let first = long_row (sheet_fault s) reasons (pairs_of s) (ap (λ (f : Told). f.number) same.taken) enough in
+      let clear = ap (λ (f : Told). f.number) (long_row (row_fault (sheet_fault s) reasons (pairs_of s)) clean (length s) (ap (λ (f : Told). f.number) first) room) in (
         said_answer (mend_fault s clean reasons) (length (clean_of s)) clear ∙ ap (λ (t : List ℕ). answer (length t)) same.same,
         ap (λ (t : List ℕ). take (length t) (clean_after s clean reasons)) (sym same.same) ∙ row_is clear ∙ same.same,
         λ i l.

@@ -12,7 +12,7 @@ use Rattle.plan.specs.Order.{Before, before}
 use Rattle.reasons.specs.Laws.{yes_same}
 use Rattle.reasons.proofs.Laws.{kept_names, kept_ends}
 use Rattle.reasons.specs.Reasons.{kept, kept_plan, kept_count, kept_cycle}
-use Rattle.sheet.specs.declared.Fault.{Fault}
+use Rattle.sheet.specs.Told.{Told}
 use Rattle.sheet.specs.Faultless.{Faultless}
 use Rattle.sheet.proofs.Faultless.{layout_laid}
 use Rattle.sheet.specs.Faults.{same_pair, repeat_at}
@@ -51,7 +51,7 @@ module _ (s : List ℕ) (known : Mendable s) where
   clean_says = read_back (net_of s) (kept_plan s) writable
 
   clean_laid : Laid (clean_of s)
-  clean_laid = layout_laid (clean_of s) (ap (λ (f : Fault). f.number) clean_says.no_layout_fault)
+  clean_laid = layout_laid (clean_of s) (ap (λ (f : Told). f.number) clean_says.no_layout_fault)
 
   pub clean_bytes : Bytes (clean_of s)
   unfolding clean_of

@@ -4,7 +4,7 @@ use Rattle.calls.specs.Call.{row_fault}
 use Rattle.calls.specs.Overwritten.{overwritten, unless_fault}
 use Rattle.calls.specs.Said.{Said, unless_refused}
 use Rattle.reasons.specs.Reasons.{reason_at, kept_cycle}
-use Rattle.sheet.specs.declared.Fault.{Fault}
+use Rattle.sheet.specs.Told.{Told}
 use Rattle.sheet.specs.Faults.{Finder, itemless, layout_faults, number_faults, first_fault}
 use Rattle.sheet.specs.Table.{pairs_of}
 use Rattle.kept_pairs.specs.Clean.{clean_of}
@@ -18,11 +18,11 @@ unfoldable pub mend_faults : List (ℕ × Finder)
 mend_faults = layout_faults ++ (number_faults ++ kept_faults)
 
 -- those of the sheet alone
-unfoldable pub sheet_fault : List ℕ → Fault
+unfoldable pub sheet_fault : List ℕ → Told
 sheet_fault s = first_fault mend_faults s
 
 -- Then 13: the row of reasons is shorter than the given pairs, or the clean row shorter than the sheet given.
-unfoldable pub mend_fault : List ℕ → List ℕ → List ℕ → Fault
+unfoldable pub mend_fault : List ℕ → List ℕ → List ℕ → Told
 mend_fault s clean reasons = row_fault (row_fault (sheet_fault s) reasons (pairs_of s)) clean (length s)
 
 -- what the call has to say

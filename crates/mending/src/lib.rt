@@ -1,76 +1,54 @@
 // Mending a sheet: the clean sheet and the reason of each given pair, in lent rows. The pairs are looked through in rows of the call's own, so that no
 // lent row is written before every fault is looked for.
+// The row of reasons is bytes, as C lends it (reedanchor_mend of include/reedanchor.h).
 #![tactic(auto)]
 
-ghost use Rattle.std.specs.Prelude.{◌≤◌, ◌≡◌, length};
-ghost use Rattle.calls.specs.Length.{says};
-ghost use Rattle.calls.specs.Refusal.{FaultTold};
+ghost use Rattle.std.specs.Prelude.{◌≤◌, ◌≡◌, length, IfOk};
+ghost use Rattle.calls.specs.Said.{says};
 ghost use Rattle.ids.specs.Limits.{most_pairs};
 ghost use Rattle.kept_pairs.specs.PairsKnown.{PairsKnown};
+ghost use Rattle.sheet.specs.Answered.{told_by};
 ghost use Rattle.mending.specs.Mended.{sheet_fault, mend_says, clean_after, reasons_after};
 
-use calls::{Written, with_row};
-use fault::Examined;
+use calls::find_room;
 use ids::PAIRS;
 use kept_pairs::clean::put_clean;
-use kept_pairs::{PairsExamined, examine_pairs};
-use layout::{layout_fault, layout_of, no_layout};
+use kept_pairs::examine_pairs;
+use reader::{Reader, read_laid};
+use reasons::KeptPairs;
 use sheet::Fault;
-use text::put_word;
 use weights::rare_number_fault;
 
-// Where a fault leaves the pairs unlooked at.
-fn unexamined(fault: Fault) -> PairsExamined
-    ensures { result.examined.fault ≡ fault }
-{
-    let layout = no_layout();
-    let examined = Examined { fault, layout };
-    PairsExamined { examined, kept: 0 }
-}
-
-// The fault that stands in the way of mending, but for the rows that are lent. If there is none, the pairs are found.
-fn examine_sheet(
-    s: &[u8],
+// The sheet and its pairs, or the fault that stands in the way of mending, but for the rows that are lent.
+#[tactic(auto, using(crate::proofs::Parts::by_layout, crate::proofs::Parts::by_number, crate::proofs::Parts::by_cycle))]
+fn examine_sheet<'a>(
+    s: &'a [u8],
     reasons: &mut [u8],
-    from: &mut [u8; PAIRS],
-    to: &mut [u8; PAIRS],
-) -> PairsExamined
+    kept: &mut KeptPairs,
+) -> Result<Reader<'a>, Fault>
     requires { most_pairs ≤ length reasons.old }
-    ensures fault_told { FaultTold s.now (sheet_fault s.now) result.examined }
-    ensures pairs_known { (sheet_fault s.now).number ≡ 0 → PairsKnown s.now reasons.old reasons.new from.new to.new result.kept }
+    ensures fault { told_by result ≡ sheet_fault s.now }
+    ensures found { IfOk result (λ r. (r ≡ s.now) × PairsKnown s.now reasons.old reasons.new kept.new) }
 {
-    let misplaced = layout_fault(s);
-    if misplaced.number != 0 {
-        return unexamined(misplaced);
-    }
-    let l = layout_of(s);
-    let number = rare_number_fault(s, l);
-    if number.number != 0 {
-        return unexamined(number);
-    }
-    examine_pairs(s, l, reasons, from, to)
+    let sheet = read_laid(s)?;
+    rare_number_fault(&sheet)?;
+    examine_pairs(&sheet, reasons, kept)?;
+    Ok(sheet)
 }
 
 // Writes the clean sheet of any bytes into one lent row, the reason of each given pair into the other, and tells the clean sheet's length. A refused
 // call changes neither.
-pub fn mend(s: &[u8], clean: &mut [u8], reasons: &mut [u8]) -> Written
+pub fn mend(s: &[u8], clean: &mut [u8], reasons: &mut [u8]) -> Result<usize, Fault>
     ensures result_value { says result ≡ mend_says s.now clean.old reasons.old }
     ensures clean_value { clean.new ≡ clean_after s.now clean.old reasons.old }
     ensures reasons_value { reasons.new ≡ reasons_after s.now clean.old reasons.old }
 {
     let mut given = [0u8; PAIRS];
-    let mut from = [0u8; PAIRS];
-    let mut to = [0u8; PAIRS];
-    let found = examine_sheet(s, &mut given, &mut from, &mut to);
-    let e = found.examined;
-    let l = e.layout;
-    let a = with_row(e, reasons.len(), l.pairs);
-    let b = with_row(a, clean.len(), s.len());
-    let f = b.fault;
-    if f.number != 0 {
-        return Written::Refused(f);
-    }
-    put_word(reasons, 0, &given[..l.pairs]);
-    let n = put_clean(s, l, found.kept, &from, &to, clean);
-    Written::Length(n)
+    let mut kept = KeptPairs::none();
+    let sheet = examine_sheet(s, &mut given, &mut kept)?;
+    let pairs = sheet.pairs();
+    find_room(reasons.len(), pairs)?;
+    find_room(clean.len(), s.len())?;
+    reasons[..pairs].copy_from_slice(&given[..pairs]);
+    Ok(put_clean(&sheet, &kept, clean))
 }

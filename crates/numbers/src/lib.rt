@@ -1,20 +1,15 @@
-// Little-endian numbers read from lent bytes.
+// Little-endian numbers read from lent bytes, from their digits to the base of 256, as the definition has them: `from_le_bytes` would need each byte named
+// in an array first, which is no plainer.
 #![tactic(auto)]
 
 ghost use Rattle.std.specs.Prelude.{◌+◌, ◌<◌, ◌≤◌, ◌≡◌, length, get_or};
 ghost use Rattle.numbers.specs.Number.{number};
 
-fn wide(x: u8) -> u32
-    ensures { (result ≡ x) × (result < 256) }
-{
-    x as u32
-}
-
 pub fn byte(s: &[u8], at: usize) -> u32
     requires { at < length s.now }
     ensures { (result ≡ get_or s.now at 0) × (result < 256) }
 {
-    wide(s[at])
+    u32::from(s[at])
 }
 
 pub fn get16(s: &[u8], at: usize) -> u32

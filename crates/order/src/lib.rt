@@ -1,36 +1,60 @@
 // Faults 10 and 11, and the order of a sheet's plan in rows of marks. The faults of the layout and 8 are absent.
+// Numbers are cast to fewer bits, which loses nothing, as the check proves: `TryFrom` would need an answer for what can't come.
 #![tactic(auto)]
 
-ghost use Rattle.std.specs.Prelude.{◌<◌, false, ◌≡◌, T, length};
+ghost use Rattle.std.specs.Prelude.{◌<◌, ◌≡◌, length, IfOk};
 ghost use Rattle.std.proofs.Math.Option.{none};
 ghost use Rattle.closure.specs.Carried.{Within};
 ghost use Rattle.closure.specs.PlanRows.{Predecessors};
 ghost use Rattle.finite.specs.Queue.{Stored};
 ghost use Rattle.ids.specs.Limits.{most_events};
+ghost use Rattle.sheet.specs.Answered.{told_by};
 ghost use Rattle.sheet.specs.Table.{pairs_of};
 ghost use Rattle.sheet.specs.Items.{plan_of};
 ghost use Rattle.sheet.specs.Faults.{no_event, repeated, order_faults, first_fault};
-ghost use Rattle.sheet.specs.Told.{tell};
-ghost use Rattle.sorting.specs.Rows.{plan_by, PlanInRows, has_cycle};
-ghost use Rattle.layout.specs.Layout.{LaidBy};
+ghost use Rattle.sheet.specs.Laid.{Laid};
+ghost use Rattle.sheet.specs.Told.{tell, plain};
+ghost use Rattle.sorting.specs.InRows.{plan_in};
+ghost use Rattle.sorting.specs.Rows.{has_cycle};
 ghost use Rattle.order.specs.Rows.{Blank, PairsHeld, WantedRows};
 
 use closure::close;
-use ids::{EVENTS, Event, PAIRS, ROWS};
-use layout::Layout;
-use lookup::{earlier, later};
+use ids::{Event, PAIRS, ROWS};
 use marks::{is_marked, mark};
-use sheet::{Fault, item_fault, no_fault, plain_fault};
-use sorting::sort_events;
+use reader::Reader;
+use sheet::Fault;
+use sorting::{Pairs, Sorting, has_cycle, sort_events};
 
-// The rows that a caller wants: of what is before each event, of what is after it. A fault is told without either.
-#[derive(Clone, Copy)]
-pub struct Wanted {
-    pub ahead: bool,
-    pub after: bool,
+// The rows that a caller wants: those of what is before each event, those of what is after it, both or neither. A fault is told in each case.
+#[derive(Clone, Copy, PartialEq, Eq)]
+pub enum Wanted {
+    Nothing,
+    Before,
+    After,
+    Both,
+}
+
+// The order in rows of marks: what is after each event, and what is before it.
+#[derive(Drop)]
+pub struct Order {
+    pub succ: [u32; ROWS],
+    pub pred: [u32; ROWS],
+}
+
+impl Order {
+    // No mark is set.
+    pub fn blank() -> Order
+        ensures { Blank result.succ × Blank result.pred }
+    {
+        Order {
+            succ: [0; ROWS],
+            pred: [0; ROWS],
+        }
+    }
 }
 
 // Puts the ends of pair i into the rows.
+// Beside `reasons::KeptPairs::push`, which counts as it puts: here the number is the pair's own.
 fn put_pair(i: usize, a: Event, b: Event, from: &mut [u8], to: &mut [u8])
     requires a_lt_most_events { (a.0 < most_events) × (b.0 < most_events) }
     requires i_in_bounds { (i < length from.old) × (i < length to.old) }
@@ -41,88 +65,81 @@ fn put_pair(i: usize, a: Event, b: Event, from: &mut [u8], to: &mut [u8])
 }
 
 // 10: pair given twice; the item is the first that repeats an earlier one. Marks each pair (a, b) in row a, and puts its ends into two rows, up
-// to a repeat.
+// to a repeat. A loop, since each pair is looked up and marked by its number.
+// The two rows of ends become `Pairs` once each pair names two events, which is known only after this.
 pub fn mark_pairs(
-    s: &[u8],
-    l: Layout,
+    sheet: &Reader,
     succ: &mut [u32; ROWS],
     from: &mut [u8; PAIRS],
     to: &mut [u8; PAIRS],
-) -> Fault
-    requires laid_by { LaidBy s.now l }
-    requires s_value { no_event s.now ≡ none }
+) -> Result<(), Fault>
+    requires laid { Laid sheet.now }
+    requires events_named { no_event sheet.now ≡ none }
     requires blank { Blank succ.old }
-    ensures value { result ≡ tell 10 (repeated s.now) }
-    ensures pairs_held { result.number ≡ 0 → PairsHeld (plan_of s.now) (pairs_of s.now) succ.new from.new to.new }
+    ensures fault { told_by result ≡ tell 10 (repeated sheet.now) }
+    ensures pairs_held { IfOk result (λ _. PairsHeld (plan_of sheet.now) (pairs_of sheet.now) succ.new from.new to.new) }
 {
-    for i in 0..l.pairs {
-        let a = earlier(s, l, i);
-        let b = later(s, l, i);
+    for i in 0..sheet.pairs() {
+        let a = sheet.earlier(i);
+        let b = sheet.later(i);
         if is_marked(succ, a.0, b.0) {
-            return item_fault(10, i);
+            return Err(Fault::Repeated(i as u32));
         }
         mark(succ, a.0, b.0);
         put_pair(i, a, b, from, to);
     }
-    no_fault()
+    Ok(())
 }
 
-// Whether the pairs have a cycle. If they have none, fills the rows of what is before each event, where these are wanted.
-fn arrange(
-    wanted: bool,
-    events: usize,
-    pairs: usize,
-    from: &[u8; PAIRS],
-    to: &[u8; PAIRS],
-    rows: &mut [u32; ROWS],
-) -> bool
-    requires plan_in_rows { PlanInRows events pairs from.now to.now }
-    requires within { Within (plan_by events pairs from.now to.now) rows.old }
-    ensures value { result ≡ has_cycle (plan_by events pairs from.now to.now) }
-    ensures predecessors { result ≡ false → T wanted → Predecessors (plan_by events pairs from.now to.now) rows.new }
+// 11: the pairs have a cycle.
+fn find_cycle(pairs: &Pairs) -> Result<(), Fault>
+    ensures { told_by result ≡ tell 11 (plain (has_cycle (plan_in pairs.now))) }
 {
-    let mut first = [0u16; EVENTS];
-    let mut next = [0u16; PAIRS];
-    let mut queue = [0u8; EVENTS];
-    let sorted = sort_events(events, pairs, from, to, &mut first, &mut next, &mut queue);
-    if sorted < events {
-        return true;
+    if has_cycle(pairs) {
+        return Err(Fault::Cycle);
     }
-    if wanted {
-        close(events, pairs, from, to, &first, &next, &queue, rows);
-    }
-    false
+    Ok(())
 }
 
-// The first of faults 10 and 11. If there is none, `succ` marks what is after each event and `pred` what is before it, where that is wanted: what
-// is after is what is before with the pairs turned.
-pub fn order_fault(
-    s: &[u8],
-    l: Layout,
-    wanted: Wanted,
-    succ: &mut [u32; ROWS],
-    pred: &mut [u32; ROWS],
-) -> Fault
-    requires laid_by { LaidBy s.now l }
-    requires s_value { no_event s.now ≡ none }
-    requires blank { Blank succ.old × Blank pred.old }
-    ensures value { result ≡ first_fault order_faults s.now }
-    ensures wanted_rows { result.number ≡ 0 → WantedRows wanted (plan_of s.now) succ.new pred.new }
+// 11 too, and where there is no cycle the rows of what is before each event.
+fn arrange(pairs: &Pairs, rows: &mut [u32; ROWS]) -> Result<(), Fault>
+    requires within { Within (plan_in pairs.now) rows.old }
+    ensures fault { told_by result ≡ tell 11 (plain (has_cycle (plan_in pairs.now))) }
+    ensures predecessors { IfOk result (λ _. Predecessors (plan_in pairs.now) rows.new) }
+{
+    let mut sorting = Sorting::blank();
+    if sort_events(pairs, &mut sorting) < pairs.events {
+        return Err(Fault::Cycle);
+    }
+    close(pairs, &sorting, rows);
+    Ok(())
+}
+
+// The first of faults 10 and 11. If there is none, the rows that are wanted say what is before each event and what is after it: what is after is what
+// is before with the pairs turned.
+pub fn order_fault(sheet: &Reader, wanted: Wanted, order: &mut Order) -> Result<(), Fault>
+    requires laid { Laid sheet.now }
+    requires events_named { no_event sheet.now ≡ none }
+    requires blank { Blank order.old.succ × Blank order.old.pred }
+    ensures fault { told_by result ≡ first_fault order_faults sheet.now }
+    ensures rows { IfOk result (λ _. WantedRows wanted (plan_of sheet.now) order.new.succ order.new.pred) }
 {
     let mut from = [0u8; PAIRS];
     let mut to = [0u8; PAIRS];
-    let repeat = mark_pairs(s, l, succ, &mut from, &mut to);
-    if repeat.number != 0 {
-        return repeat;
+    mark_pairs(sheet, &mut order.succ, &mut from, &mut to)?;
+    let pairs = Pairs {
+        events: sheet.events(),
+        count: sheet.pairs(),
+        from: &from,
+        to: &to,
+    };
+    match wanted {
+        Wanted::Nothing => find_cycle(&pairs),
+        Wanted::Before => arrange(&pairs, &mut order.pred),
+        Wanted::After => arrange(&pairs.turned(), &mut order.succ),
+        Wanted::Both => {
+            arrange(&pairs, &mut order.pred)?;
+            arrange(&pairs.turned(), &mut order.succ)
+        }
     }
-    let n = l.events;
-    let m = l.pairs;
-    if arrange(wanted.ahead, n, m, &from, &to, pred) {
-        return plain_fault(11);
-    }
-    if wanted.after {
-        arrange(true, n, m, &to, &from, succ);
-        return no_fault();
-    }
-    no_fault()
 }

@@ -41,7 +41,7 @@ SettledHere s p enough pred amount fed share givers lacks =
 
 -- Rows filled with a sheet's gives and takes at a place are those of that place.
 pub sheet_rows : (s : List ℕ) → Faultless s → (p n : ℕ) → p < places_of s → n ≡ events_of s → (pred free₀ share₀ free share : List ℕ) → Predecessors (plan_of s) pred
-    → Filled (gives_in s p) n free₀ free → Filled (takes_in s p) n share₀ share → PlaceRows (net_of s) (plan_of s) p n pred free share
+    → Filled (gives_in s p) (events_of s) free₀ free → Filled (takes_in s p) (events_of s) share₀ share → PlaceRows (net_of s) (plan_of s) p n pred free share
 sheet_rows s known p n place all pred free₀ share₀ free share before g t =
     let label : (v : ℕ) → v < n → v < events_of s = λ v l. omega (arith, all) in
     record {
@@ -49,8 +49,8 @@ sheet_rows s known p n place all pred free₀ share₀ free share before g t =
       events = all;
       few = omega (arith, all, known.laid.limited.events);
       before = before;
-      gives = g.numbers;
-      takes = t.numbers;
-      small_gives = record { most = λ v l. omega (arith, g.numbers v l, known.gives (label_at s v) p (known.labels v (label v l)) place) };
-      small_takes = record { most = λ v l. omega (arith, t.numbers v l, known.takes (label_at s v) p (known.labels v (label v l)) place) };
+      gives = λ v l. g.numbers v (label v l);
+      takes = λ v l. t.numbers v (label v l);
+      small_gives = record { most = λ v l. omega (arith, g.numbers v (label v l), known.gives (label_at s v) p (known.labels v (label v l)) place) };
+      small_takes = record { most = λ v l. omega (arith, t.numbers v (label v l), known.takes (label_at s v) p (known.labels v (label v l)) place) };
     }

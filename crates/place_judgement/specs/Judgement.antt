@@ -1,31 +1,25 @@
 -- The answer of the place judgement and its rows at return. Document 01, "Place judgement", with the spare count of document 02, A3.
-use Rattle.std.specs.Prelude.{ℕ, List, ◌≡◌, ℤ}
-use Rattle.std.proofs.Common.{sym, ap}
+use Rattle.std.specs.Prelude.{ℕ, List, ◌≡◌, ℤ, Result}
 use Rattle.place.specs.Place.{spare_at}
 use Rattle.sheet.specs.Table.{events_of}
 use Rattle.calls.specs.Call.{row_fault}
 use Rattle.calls.specs.FlowRow.{flow_fault}
 use Rattle.calls.specs.Overwritten.{unless_fault}
-use Rattle.calls.specs.Said.{Said, refusal, answer, unless_refused, refusal_same, refusal_apart, answer_same}
+use Rattle.calls.specs.Said.{Said, unless_refused, says as says_answer, said_once as said_answer_once}
+use Rattle.sheet.specs.Told.{Told}
 use Rattle.sheet.specs.declared.Fault.{Fault}
 use Rattle.handing.specs.Handed.{marks_done, Written}
-use Rattle.place_judgement.specs.declared.Judgement.{Judgement}
-use Rattle.place_judgement.specs.declared.Judgement.TheVariants.{Refused, Spare}
 
 -- What each case says: the call's fault, or the spare count, with its sign.
-abbrev pub says : Judgement → Said ℤ
-says (Refused f) = refusal f
-says (Spare z) = answer z
+abbrev pub says : Result ℤ Fault → Said ℤ
+says r = says_answer r
 
 -- Nothing is left free: answers that say the same are the same.
-pub said_once : (r t : Judgement) → says r ≡ says t → r ≡ t
-said_once (Refused f) (Refused g) e = ap Refused (refusal_same f g e)
-said_once (Refused f) (Spare z) e = absurd (refusal_apart f z e)
-said_once (Spare z) (Refused g) e = absurd (refusal_apart g z (sym e))
-said_once (Spare z) (Spare y) e = ap Spare (answer_same z y e)
+pub said_once : (r t : Result ℤ Fault) → says r ≡ says t → r ≡ t
+said_once r t e = said_answer_once r t e
 
 -- the fault of a call that is lent a row of marks besides the flow row
-unfoldable pub judge_fault : List ℕ → ℕ → List ℕ → List ℕ → Fault
+unfoldable pub judge_fault : List ℕ → ℕ → List ℕ → List ℕ → Told
 judge_fault s p flow marks = row_fault (flow_fault s p flow) marks (events_of s)
 
 -- what the place judgement has to say

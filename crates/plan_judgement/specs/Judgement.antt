@@ -1,32 +1,27 @@
 -- The answer of the plan judgement and the row that it leaves. Document 01, "Plan judgement" and "Faults of a call".
-use Rattle.std.specs.Prelude.{ℕ, List, ◌≡◌}
-use Rattle.std.proofs.Common.{sym, ap}
+use Rattle.std.specs.Prelude.{ℕ, List, ◌≡◌, Result}
 use Rattle.calls.specs.Call.{row_fault}
 use Rattle.calls.specs.Overwritten.{overwritten, unless_fault}
-use Rattle.calls.specs.Said.{Said, refusal, answer, unless_refused, refusal_same, refusal_apart, answer_same}
+use Rattle.calls.specs.Said.{Said, unless_refused, says_by, said_once_by}
 use Rattle.place.specs.Place.{missing_at}
 use Rattle.sheet.specs.Faults.{fault_of}
 use Rattle.sheet.specs.Table.{places_of}
+use Rattle.sheet.specs.Told.{Told}
 use Rattle.sheet.specs.declared.Fault.{Fault}
 use Rattle.summary.proofs.Laws.{values_once}
 use Rattle.summary.specs.Summary.{PlanValues, values_in, values_of}
-use Rattle.plan_judgement.specs.declared.Answer.{Answer}
-use Rattle.plan_judgement.specs.declared.Answer.TheVariants.{Refused, Judged}
+use Rattle.summary.specs.declared.Totals.{Totals}
 
 -- What each case says: the call's fault, or the values of its totals.
-abbrev pub says : Answer → Said PlanValues
-says (Refused f) = refusal f
-says (Judged totals) = answer (values_in totals)
+abbrev pub says : Result Totals Fault → Said PlanValues
+says = says_by values_in
 
 -- Nothing is left free: answers that say the same are the same.
-pub said_once : (r t : Answer) → says r ≡ says t → r ≡ t
-said_once (Refused f) (Refused g) e = ap Refused (refusal_same f g e)
-said_once (Refused f) (Judged u) e = absurd (refusal_apart f (values_in u) e)
-said_once (Judged t) (Refused g) e = absurd (refusal_apart g (values_in t) (sym e))
-said_once (Judged t) (Judged u) e = ap Judged (values_once t u (answer_same (values_in t) (values_in u) e))
+pub said_once : (r t : Result Totals Fault) → says r ≡ says t → r ≡ t
+said_once r t e = said_once_by values_in values_once r t e
 
 -- the fault of the call: the sheet's own, else 13 if the row has fewer numbers than there are places
-unfoldable pub plan_fault : List ℕ → List ℕ → Fault
+unfoldable pub plan_fault : List ℕ → List ℕ → Told
 plan_fault s row = row_fault (fault_of s) row (places_of s)
 
 -- the values of a sheet: the total missing, the number of short places, and what the verdict says

@@ -5,105 +5,86 @@
 ghost use Rattle.std.specs.Prelude.{◌+◌, ◌<◌, ◌≤◌, T};
 ghost use Rattle.ids.specs.Limits.{most_events};
 ghost use Rattle.marks.specs.Marks.{marked};
-ghost use Rattle.drawing.specs.Moves.{Holds, Moves, Order};
+ghost use Rattle.tokenflow.specs.Flowing.{Flowing};
+ghost use Rattle.drawing.specs.Moves.{Moved, Order};
 
 use drawing::draw_at;
 use exchange::exchange;
 use ids::{EVENTS, Event, ROWS, WORDS};
-use last_mark::Found;
-use levels::{SETS, lowest, mark_givers, mark_source, mark_takers, set_levels, unmark_spent};
+use last_mark::{last_common, last_only};
+use levels::Levels;
+use search::Trail;
+use tokenflow::Flow;
 
 // More than givers and takers there are.
 const TURNS: usize = 3 * EVENTS;
 
 // A giver of a level with tokens free feeds the taker w in place of v. If none is before w, w loses its mark in `within`.
+// `within` stays beside the levels: it is of one level, and made anew for each.
 fn pull_by(
     pred: &[u32; ROWS],
-    sets: &mut [u32; SETS],
+    levels: &mut Levels,
     within: &mut [u32; WORDS],
-    amount: &mut [u32],
-    fed: &mut [u32; ROWS],
-    free: &mut [u32; EVENTS],
-    share: &mut [u32; EVENTS],
+    flow: &mut Flow,
     v: Event,
     w: Event,
     level: usize,
     n: usize,
 )
-    requires holds { Holds n pred.now amount.old fed.old free.old share.old }
+    requires holds { Flowing n pred.now flow.old }
     requires order { Order n pred.now }
-    requires v_lt_n { (v.0 < n) × (w.0 < n) × T (marked fed.old v.0 w.0) }
+    requires v_lt_n { (v.0 < n) × (w.0 < n) × T (marked flow.old.fed v.0 w.0) }
     requires level_lt_most_events { level < most_events }
-    ensures { Moves n pred.now amount.old amount.new fed.old fed.new free.old free.new share.old share.new }
+    ensures { Moved n pred.now flow.old flow.new }
 {
-    let found = last_mark::last_common(pred, w.0, sets, level);
-    let Found::At(x) = found else {
+    let Some(u) = last_common(pred, w.0, &levels.sets, level) else {
         marks::unmark(within, 0, w.0);
         return;
     };
-    let u = Event(x);
-    exchange(pred, amount, fed, free, share, u, w, v, n);
-    unmark_spent(free, sets, level, u);
+    exchange(pred, flow, Event(u), w, v, n);
+    levels.unmark_spent(flow.free, level, Event(u));
 }
 
 // Pulls tokens to v by way of a taker marked in `within` that it feeds. Returns whether there was one.
 fn pull_once(
     pred: &[u32; ROWS],
-    sets: &mut [u32; SETS],
+    levels: &mut Levels,
     within: &mut [u32; WORDS],
-    amount: &mut [u32],
-    fed: &mut [u32; ROWS],
-    free: &mut [u32; EVENTS],
-    share: &mut [u32; EVENTS],
+    flow: &mut Flow,
     v: Event,
     level: usize,
     n: usize,
 ) -> bool
-    requires holds { Holds n pred.now amount.old fed.old free.old share.old }
+    requires holds { Flowing n pred.now flow.old }
     requires order { Order n pred.now }
     requires v_lt_most_events { (v.0 < most_events) × (level < most_events) }
-    ensures { Moves n pred.now amount.old amount.new fed.old fed.new free.old free.new share.old share.new }
+    ensures { Moved n pred.now flow.old flow.new }
 {
-    let found = last_mark::last_common(fed, v.0, within, 0);
-    let Found::At(w) = found else {
+    let Some(w) = last_common(flow.fed, v.0, within, 0) else {
         return false;
     };
-    pull_by(
-        pred,
-        sets,
-        within,
-        amount,
-        fed,
-        free,
-        share,
-        v,
-        Event(w),
-        level,
-        n,
-    );
+    pull_by(pred, levels, within, flow, v, Event(w), level, n);
     true
 }
 
 // Pulls tokens to v until it feeds no taker that another could feed. Each turn uses up a giver or a taker.
+// A step as often as there may be turns; `drawing::draw_for` says why each loop stands by itself.
 fn pull(
     pred: &[u32; ROWS],
-    sets: &mut [u32; SETS],
+    levels: &mut Levels,
     within: &mut [u32; WORDS],
-    amount: &mut [u32],
-    fed: &mut [u32; ROWS],
-    free: &mut [u32; EVENTS],
-    share: &mut [u32; EVENTS],
+    flow: &mut Flow,
     v: Event,
     level: usize,
     n: usize,
 )
-    requires holds { Holds n pred.now amount.old fed.old free.old share.old }
+    requires holds { Flowing n pred.now flow.old }
     requires order { Order n pred.now }
     requires v_lt_most_events { (v.0 < most_events) × (level < most_events) }
-    ensures { Moves n pred.now amount.old amount.new fed.old fed.new free.old free.new share.old share.new }
+    ensures { Moved n pred.now flow.old flow.new }
 {
     for _ in 0..TURNS {
-        if !pull_once(pred, sets, within, amount, fed, free, share, v, level, n) {
+        if !pull_once(pred, levels, within, flow, v, level, n) {
             return;
         }
     }
@@ -112,96 +93,68 @@ fn pull(
 // Visits a giver met at the level `lower`: pulls tokens to it from givers of the next level. Returns whether there was one.
 fn pull_next(
     pred: &[u32; ROWS],
-    sets: &mut [u32; SETS],
+    levels: &mut Levels,
     within: &mut [u32; WORDS],
-    amount: &mut [u32],
-    fed: &mut [u32; ROWS],
-    free: &mut [u32; EVENTS],
-    share: &mut [u32; EVENTS],
+    flow: &mut Flow,
     lower: usize,
     n: usize,
 ) -> bool
-    requires holds { Holds n pred.now amount.old fed.old free.old share.old }
+    requires holds { Flowing n pred.now flow.old }
     requires order { Order n pred.now }
     requires lower_bound { lower + 1 < most_events }
-    ensures { Moves n pred.now amount.old amount.new fed.old fed.new free.old free.new share.old share.new }
+    ensures { Moved n pred.now flow.old flow.new }
 {
     let row = EVENTS + lower;
-    let none = [0u32; WORDS];
-    let found = last_mark::last_only(sets, row, &none, 0);
-    let Found::At(x) = found else {
+    let Some(v) = last_only(&levels.sets, row, &[0; WORDS], 0) else {
         return false;
     };
-    marks::unmark(sets, row, x);
-    let v = Event(x);
-    pull(
-        pred,
-        sets,
-        within,
-        amount,
-        fed,
-        free,
-        share,
-        v,
-        lower + 1,
-        n,
-    );
-    mark_source(free, sets, lower, v);
+    marks::unmark(&mut levels.sets, row, v);
+    pull(pred, levels, within, flow, Event(v), lower + 1, n);
+    levels.mark_source(flow.free, lower, Event(v));
     true
 }
 
 // Visits each giver met at the level `lower`, by way of the takers marked in `within`.
 fn pull_all(
     pred: &[u32; ROWS],
-    sets: &mut [u32; SETS],
+    levels: &mut Levels,
     within: &mut [u32; WORDS],
-    amount: &mut [u32],
-    fed: &mut [u32; ROWS],
-    free: &mut [u32; EVENTS],
-    share: &mut [u32; EVENTS],
+    flow: &mut Flow,
     lower: usize,
     n: usize,
 )
-    requires holds { Holds n pred.now amount.old fed.old free.old share.old }
+    requires holds { Flowing n pred.now flow.old }
     requires order { Order n pred.now }
     requires lower_bound { lower + 1 < most_events }
-    ensures { Moves n pred.now amount.old amount.new fed.old fed.new free.old free.new share.old share.new }
+    ensures { Moved n pred.now flow.old flow.new }
 {
     for _ in 0..n {
-        if !pull_next(pred, sets, within, amount, fed, free, share, lower, n) {
+        if !pull_next(pred, levels, within, flow, lower, n) {
             return;
         }
     }
 }
 
-fn has_marks(row: &[u32; WORDS]) -> bool {
-    marks::meets(row, 0, row, 0)
-}
-
 // Pushes tokens from the level above `lower` to it. Returns the first place of the level above in the queue.
 fn push_level(
     pred: &[u32; ROWS],
-    queue: &[usize; EVENTS],
-    levels: &[usize; EVENTS],
-    sets: &mut [u32; SETS],
-    amount: &mut [u32],
-    fed: &mut [u32; ROWS],
-    free: &mut [u32; EVENTS],
-    share: &mut [u32; EVENTS],
+    trail: &Trail,
+    levels: &mut Levels,
+    flow: &mut Flow,
     lower: usize,
     end: usize,
     n: usize,
 ) -> usize
-    requires holds { Holds n pred.now amount.old fed.old free.old share.old }
+    requires holds { Flowing n pred.now flow.old }
     requires order { Order n pred.now }
     requires lower_bound { (lower + 1 < most_events) × (end ≤ most_events) }
-    ensures moves { Moves n pred.now amount.old amount.new fed.old fed.new free.old free.new share.old share.new }
+    ensures moves { Moved n pred.now flow.old flow.new }
     ensures upper_bound { result ≤ most_events }
 {
     let mut within = [0u32; WORDS];
-    let start = mark_takers(pred, queue, levels, sets, &mut within, lower + 1, end);
-    if has_marks(&within) {
-        pull_all(pred, sets, &mut within, amount, fed, free, share, lower, n);
+    let start = levels.mark_takers(pred, trail, &mut within, lower + 1, end);
+    if within.iter().any(|word| *word != 0) {
+        pull_all(pred, levels, &mut within, flow, lower, n);
     }
     start
 }
@@ -209,80 +162,55 @@ fn push_level(
 // Draws for the takers of level 0, which stand before the place `end` of the queue.
 fn draw_lowest(
     pred: &[u32; ROWS],
-    queue: &[usize; EVENTS],
-    sets: &[u32; SETS],
-    amount: &mut [u32],
-    fed: &mut [u32; ROWS],
-    free: &mut [u32; EVENTS],
-    share: &mut [u32; EVENTS],
+    trail: &Trail,
+    levels: &Levels,
+    flow: &mut Flow,
     end: usize,
     n: usize,
 )
-    requires holds { Holds n pred.now amount.old fed.old free.old share.old }
+    requires holds { Flowing n pred.now flow.old }
     requires order { Order n pred.now }
     requires end_le_most_events { end ≤ most_events }
-    ensures { Moves n pred.now amount.old amount.new fed.old fed.new free.old free.new share.old share.new }
+    ensures { Moved n pred.now flow.old flow.new }
 {
-    let mut sources = lowest(sets);
+    let mut sources = levels.lowest();
     for at in 0..end {
-        draw_at(pred, queue, amount, fed, free, share, &mut sources, at, n);
+        draw_at(pred, &trail.queue, flow, &mut sources, at, n);
     }
 }
 
 // Pushes tokens down from the deepest level to level 0, and draws them there.
 fn push_down(
     pred: &[u32; ROWS],
-    queue: &[usize; EVENTS],
-    levels: &[usize; EVENTS],
-    sets: &mut [u32; SETS],
-    amount: &mut [u32],
-    fed: &mut [u32; ROWS],
-    free: &mut [u32; EVENTS],
-    share: &mut [u32; EVENTS],
+    trail: &Trail,
+    levels: &mut Levels,
+    flow: &mut Flow,
     deepest: usize,
     tail: usize,
     n: usize,
 )
-    requires holds { Holds n pred.now amount.old fed.old free.old share.old }
+    requires holds { Flowing n pred.now flow.old }
     requires order { Order n pred.now }
     requires deepest_lt_most_events { (deepest < most_events) × (tail ≤ most_events) }
-    ensures { Moves n pred.now amount.old amount.new fed.old fed.new free.old free.new share.old share.new }
+    ensures { Moved n pred.now flow.old flow.new }
 {
-    let mut level = deepest;
     let mut end = tail;
-    while level > 0 {
-        level -= 1;
-        end = push_level(
-            pred, queue, levels, sets, amount, fed, free, share, level, end, n,
-        );
+    for level in (0..deepest).rev() {
+        end = push_level(pred, trail, levels, flow, level, end, n);
     }
-    draw_lowest(pred, queue, sets, amount, fed, free, share, end, n);
+    draw_lowest(pred, trail, levels, flow, end, n);
 }
 
 // Pushes what givers have free down the levels of a search, and draws it for the takers that lack tokens. The origin is 256 where the
 // search started, and the place of a giver that it didn't meet is 256.
-pub fn push(
-    pred: &[u32; ROWS],
-    queue: &[usize; EVENTS],
-    origin: &[usize; EVENTS],
-    via: &[usize; EVENTS],
-    amount: &mut [u32],
-    fed: &mut [u32; ROWS],
-    free: &mut [u32; EVENTS],
-    share: &mut [u32; EVENTS],
-    tail: usize,
-    n: usize,
-)
-    requires holds { Holds n pred.now amount.old fed.old free.old share.old }
+pub fn push(pred: &[u32; ROWS], trail: &Trail, flow: &mut Flow, tail: usize, n: usize)
+    requires holds { Flowing n pred.now flow.old }
     requires order { Order n pred.now }
     requires tail_le_most_events { tail ≤ most_events }
-    ensures { Moves n pred.now amount.old amount.new fed.old fed.new free.old free.new share.old share.new }
+    ensures { Moved n pred.now flow.old flow.new }
 {
-    let mut levels = [0usize; EVENTS];
-    let mut sets = [0u32; SETS];
-    let deepest = set_levels(origin, via, &mut levels, tail);
-    mark_givers(via, &levels, free, &mut sets, n);
-    push_down(
-        pred, queue, &levels, &mut sets, amount, fed, free, share, deepest, tail, n,
-    );
+    let mut levels = Levels::blank();
+    let deepest = levels.set(trail, tail);
+    levels.mark_givers(trail, flow.free, n);
+    push_down(pred, trail, &mut levels, flow, deepest, tail, n);
 }

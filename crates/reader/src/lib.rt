@@ -1,75 +1,148 @@
-// The reader of a sheet: the lent bytes together with the sheet's layout, which has its four counts. Its fields are private, so that `read` alone
-// makes one for another crate. Each lookup takes the reader apart and leaves the work to the function of the same name on bytes and layout.
+// The reader of a sheet: the lent bytes together with the sheet's layout, which has its four counts. Contracts see it as its bytes. Its fields are
+// private, so that `read` and `read_laid` alone make one. Each lookup leaves the work to the function of the same name on bytes and layout.
 #![tactic(auto)]
 
-ghost use Rattle.std.specs.Prelude.{◌<◌, ◌≤◌, ◌≡◌, length};
-ghost use Rattle.sheet.specs.Table.{table_length, places_of};
-ghost use Rattle.sheet.specs.Items.{opening_at};
+ghost use Rattle.std.specs.Prelude.{◌<◌, ◌≤◌, ◌≡◌, length, IfOk};
+ghost use Rattle.sheet.specs.Answered.{told_by};
+ghost use Rattle.sheet.specs.Faults.{layout_faults, first_fault};
+ghost use Rattle.sheet.specs.Items.{opening_at, takes_at, gives_at, label_at, earlier_at, later_at};
 ghost use Rattle.sheet.specs.Laid.{Laid};
-ghost use Rattle.sheet.specs.Faultless.{Faultless};
-ghost use Rattle.counts.specs.Ends.{gained_at, lost_at};
-ghost use Rattle.reader.specs.Reads.{Reads, reader_of};
+ghost use Rattle.sheet.specs.Table.{table_length, places_of, transitions_of, events_of, pairs_of};
+ghost use Rattle.layout.specs.Layout.{LayoutOf};
 
-use ids::Place;
-use layout::{Layout, layout_of};
+use ids::{Event, Place, Transition};
+use layout::{Layout, find_layout, layout_of};
+use sheet::Fault;
+use std::marker::Model;
 
-#[derive(Clone, Copy)]
+// It is lent and not copied: a struct with a model and a lifetime can't be `Copy` here.
+#[derive(Drop)]
 pub struct Reader<'a> {
-    sheet: &'a [u8],
+    bytes: &'a [u8],
     layout: Layout,
 }
 
-// The reader of a sheet, from the bytes alone.
+impl<'a> Model for Reader<'a> {
+    ghost use Rattle.std.specs.Prelude.{List, ℕ};
+
+    ghost Value = { List ℕ };
+
+    ghost use Rattle.layout.specs.Layout.{LayoutOf};
+
+    ghost view = { λ r. r.bytes.now };
+
+    ghost invariant = { λ r. LayoutOf r.bytes.now r.layout };
+}
+
+// The reader of a sheet that has a table.
 pub fn read<'a>(sheet: &'a [u8]) -> Reader<'a>
     requires { table_length ≤ length sheet.now }
-    ensures { result ≡ reader_of sheet.entry }
+    ensures { result ≡ sheet.now }
 {
-    let layout = layout_of(sheet);
-    Reader { sheet, layout }
+    Reader {
+        bytes: sheet,
+        layout: layout_of(sheet),
+    }
 }
 
-// The opening count of a place.
-pub fn opening<'a>(r: Reader<'a>, p: Place) -> u32
-    requires { Laid r.sheet.now × Reads r × (p.0 < r.layout.places) }
-    ensures { result ≡ opening_at r.entry.sheet.now p.0 }
+// The reader of a sheet whose layout has no fault, else the first of its faults.
+pub fn read_laid<'a>(sheet: &'a [u8]) -> Result<Reader<'a>, Fault>
+    ensures fault { told_by result ≡ first_fault layout_faults sheet.now }
+    ensures laid { IfOk result (λ r. (r ≡ sheet.now) × Laid sheet.now) }
 {
-    lookup::opening(r.sheet, r.layout, p)
+    let layout = find_layout(sheet)?;
+    Ok(Reader {
+        bytes: sheet,
+        layout,
+    })
 }
 
-// The opening count of a place and what all events give to it.
-pub fn gained<'a>(r: Reader<'a>, p: Place) -> u32
-    requires { Faultless r.sheet.now × Reads r × (p.0 < r.layout.places) }
-    ensures { result ≡ gained_at r.entry.sheet.now p.0 }
-{
-    counts::gained(r.sheet, r.layout, p)
-}
+impl<'a> Reader<'a> {
+    pub fn bytes(&self) -> &[u8]
+        ensures { result.now ≡ self.now }
+    {
+        self.bytes
+    }
 
-// What all events take from a place.
-pub fn lost<'a>(r: Reader<'a>, p: Place) -> u32
-    requires { Faultless r.sheet.now × Reads r × (p.0 < r.layout.places) }
-    ensures { result ≡ lost_at r.entry.sheet.now p.0 }
-{
-    counts::lost(r.sheet, r.layout, p)
-}
+    pub fn layout(&self) -> Layout
+        ensures { LayoutOf self.now result }
+    {
+        self.layout
+    }
 
-// The same for callers that hold no reader.
-pub fn opening_of(sheet: &[u8], p: Place) -> u32
-    requires { Laid sheet.now × (p.0 < places_of sheet.now) }
-    ensures { result ≡ opening_at sheet.now p.0 }
-{
-    opening(read(sheet), p)
-}
+    pub fn places(&self) -> usize
+        ensures { result ≡ places_of self.now }
+    {
+        self.layout.places
+    }
 
-pub fn gained_of(sheet: &[u8], p: Place) -> u32
-    requires { Faultless sheet.now × (p.0 < places_of sheet.now) }
-    ensures { result ≡ gained_at sheet.now p.0 }
-{
-    gained(read(sheet), p)
-}
+    pub fn transitions(&self) -> usize
+        ensures { result ≡ transitions_of self.now }
+    {
+        self.layout.transitions
+    }
 
-pub fn lost_of(sheet: &[u8], p: Place) -> u32
-    requires { Faultless sheet.now × (p.0 < places_of sheet.now) }
-    ensures { result ≡ lost_at sheet.now p.0 }
-{
-    lost(read(sheet), p)
+    pub fn events(&self) -> usize
+        ensures { result ≡ events_of self.now }
+    {
+        self.layout.events
+    }
+
+    pub fn pairs(&self) -> usize
+        ensures { result ≡ pairs_of self.now }
+    {
+        self.layout.pairs
+    }
+
+    // The opening count of a place.
+    pub fn opening(&self, p: Place) -> u32
+        requires laid { Laid self.now }
+        requires known { p.0 < places_of self.now }
+        ensures { result ≡ opening_at self.now p.0 }
+    {
+        lookup::opening(self.bytes, self.layout, p)
+    }
+
+    // What a transition takes from a place, and what it gives to it.
+    pub fn takes(&self, t: Transition, p: Place) -> u32
+        requires laid { Laid self.now }
+        requires known { (t.0 < transitions_of self.now) × (p.0 < places_of self.now) }
+        ensures { result ≡ takes_at self.now t.0 p.0 }
+    {
+        lookup::takes(self.bytes, self.layout, t, p)
+    }
+
+    pub fn gives(&self, t: Transition, p: Place) -> u32
+        requires laid { Laid self.now }
+        requires known { (t.0 < transitions_of self.now) × (p.0 < places_of self.now) }
+        ensures { result ≡ gives_at self.now t.0 p.0 }
+    {
+        lookup::gives(self.bytes, self.layout, t, p)
+    }
+
+    // The transition that an event is labelled with.
+    pub fn label(&self, v: Event) -> Transition
+        requires laid { Laid self.now }
+        requires known { v.0 < events_of self.now }
+        ensures { result.0 ≡ label_at self.now v.0 }
+    {
+        lookup::label(self.bytes, self.layout, v)
+    }
+
+    // The earlier and the later event of a pair.
+    pub fn earlier(&self, i: usize) -> Event
+        requires laid { Laid self.now }
+        requires known { i < pairs_of self.now }
+        ensures { result.0 ≡ earlier_at self.now i }
+    {
+        lookup::earlier(self.bytes, self.layout, i)
+    }
+
+    pub fn later(&self, i: usize) -> Event
+        requires laid { Laid self.now }
+        requires known { i < pairs_of self.now }
+        ensures { result.0 ≡ later_at self.now i }
+    {
+        lookup::later(self.bytes, self.layout, i)
+    }
 }

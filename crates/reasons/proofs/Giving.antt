@@ -1,6 +1,5 @@
 -- Pair after pair: the reasons so far are written, those that name two different events are marked, and the kept ones are put into rows and counted.
 use Prim.Native.Nat.{ℕ, ◌+◌, ◌<◌, ◌≤◌}
-use native.Mathlib.Nat.{eq-zero-or-pos}
 use native.Mathlib.Omega.{arith}
 use mathlib.Core.Bool.{true, false}
 use mathlib.Core.List.{List}
@@ -18,7 +17,8 @@ use Rattle.finite.specs.Filled.{Filled, filled_none, filled_more}
 use Rattle.finite.specs.Queue.{Stored, below_next, stored_below}
 use Rattle.sheet.specs.Faults.{repeat_at}
 use Rattle.sheet.specs.Items.{earlier_at, later_at}
-use Rattle.reasons.specs.KeptRows.{KeptRows, HoldsKept, MarkedIfKept, PutIfKept}
+use Rattle.reasons.specs.KeptRows.{KeptRows, HoldsKept, KeptOrDropped}
+use Rattle.reasons.specs.declared.KeptPairs.{KeptPairs}
 use Rattle.reasons.proofs.Laws.{kept_names, names_kept, kept_0}
 use Rattle.reasons.specs.Reasons.{reason_at, kept, names_two}
 use Rattle.reasons.proofs.Rows.{rows_start, rows_kept, rows_dropped}
@@ -27,15 +27,11 @@ not_kept : (s : List ℕ) (i : ℕ) → ¬ (reason_at s i ≡ 0) → kept s i �
 unfolding kept
 not_kept s i some = is_false (kept s i) (not_T (kept s i) (λ t. some (eqb→eq (reason_at s i) 0 t)))
 
-pub most_one : (old new : List ℕ) (a b r more : ℕ) → MarkedIfKept old new a b r more → more ≤ 1
-most_one old new a b r more h =
-    ⊎_elim (λ e. omega (arith, (h.keeps e).1)) (λ l. omega (arith, (h.drops (λ e. omega arith)).1)) (eq-zero-or-pos r)
-
-pub record SoFar (s : List ℕ) (old reasons from to succ : List ℕ) (i count : ℕ) : Type 0 where
+pub record SoFar (s old reasons succ : List ℕ) (pairs : KeptPairs) (i : ℕ) : Type 0 where
   pub written : Filled (reason_at s) i old reasons
   pub marked : KeptRows s i succ
-  pub holds : HoldsKept s i from to
-  pub counted : count ≡ length (chosen i (kept s))
+  pub holds : HoldsKept s i pairs.from pairs.to
+  pub counted : pairs.count ≡ length (chosen i (kept s))
 
 module _ (s : List ℕ) where
   holds_start : (from to : List ℕ) → HoldsKept s 0 from to
@@ -75,16 +71,15 @@ module _ (s : List ℕ) where
     holds_more {from₁} {to₁} e first second =
         record { earlier = put_end (earlier_at s) from from₁ e first h.earlier; later = put_end (later_at s) to to₁ e second h.later }
 
-module _ (s : List ℕ) (old : List ℕ) where
-  pub so_far_start : (from to : List ℕ) (n : ℕ) → SoFar s old old from to (replicate n 0) 0 0
+module _ (s old : List ℕ) where
+  pub so_far_start : (pairs : KeptPairs) (n : ℕ) → pairs.count ≡ 0 → SoFar s old old (replicate n 0) pairs 0
   unfolding chosen
-  so_far_start from to n =
-      record { written = filled_none (reason_at s) 0 old refl; marked = rows_start s n; holds = holds_start s from to; counted = refl }
+  so_far_start pairs n none =
+      record { written = filled_none (reason_at s) 0 old refl; marked = rows_start s n; holds = holds_start s pairs.from pairs.to; counted = none }
 
-  pub so_far_more : (reasons from to succ from₁ to₁ succ₁ : List ℕ) (i count a b r more : ℕ) → SoFar s old reasons from to succ i count → i < length reasons
-      → a ≡ earlier_at s i → b ≡ later_at s i → r ≡ reason_at s i → MarkedIfKept succ succ₁ a b r more → PutIfKept from from₁ count a r → PutIfKept to to₁ count b r
-      → SoFar s old (set reasons i r) from₁ to₁ succ₁ (i + 1) (count + more)
-  so_far_more reasons from to succ from₁ to₁ succ₁ i count a b r more h l ea eb er next first second =
+  pub so_far_more : (reasons succ succ₁ : List ℕ) (pairs pairs₁ : KeptPairs) (i a b r : ℕ) → SoFar s old reasons succ pairs i → i < length reasons
+      → a ≡ earlier_at s i → b ≡ later_at s i → r ≡ reason_at s i → KeptOrDropped succ succ₁ pairs pairs₁ a b r → SoFar s old (set reasons i r) succ₁ pairs₁ (i + 1)
+  so_far_more reasons succ succ₁ pairs pairs₁ i a b r h l ea eb er next =
       ⊎_elim
       (λ t.
       let zero_is = eqb→eq (reason_at s i) 0 t in
@@ -97,31 +92,30 @@ module _ (s : List ℕ) (old : List ℕ) where
             holds_more
             s
             i
-            from
-            to
+            pairs.from
+            pairs.to
             h.holds
             (is_true (kept s i) is_kept)
-            (subst₂ (Stored from from₁) h.counted ea (first.keeps (er ∙ zero_is)))
-            (subst₂ (Stored to to₁) h.counted eb (second.keeps (er ∙ zero_is)));
-        counted = omega (arith, h.counted, keeps.1, chosen_more (kept s) i (is_true (kept s i) is_kept));
+            (subst₂ (Stored pairs.from pairs₁.from) h.counted ea keeps.1.earlier)
+            (subst₂ (Stored pairs.to pairs₁.to) h.counted eb keeps.1.later);
+        counted = omega (arith, h.counted, keeps.1.more, chosen_more (kept s) i (is_true (kept s i) is_kept));
       })
       (λ t.
       let some = eqb_no t in
-      let dropped : ¬ (r ≡ 0) = λ e. some (sym er ∙ e) in
-      let drops = next.drops dropped in
+      let drops = next.drops (λ e. some (sym er ∙ e)) in
       record {
         written = rw er (filled_more (reason_at s) i old reasons l h.written);
         marked = rw drops.0 (rows_dropped s i succ h.marked (again some));
-        holds = rw (first.drops dropped, second.drops dropped) (holds_same s i from to h.holds (not_kept s i some));
-        counted = omega (arith, h.counted, drops.1, ap length (chosen_same (kept s) i (not_kept s i some)));
+        holds = rw drops.1 (holds_same s i pairs.from pairs.to h.holds (not_kept s i some));
+        counted = rw drops.1 (h.counted ∙ sym (ap length (chosen_same (kept s) i (not_kept s i some))));
       })
       (decide (eqb (reason_at s i) 0))
     where
       again : ¬ (reason_at s i ≡ 0) → T (names_two s i) → T (repeat_at s i)
       again some t = ⊎_elim (λ yes. yes) (λ no. absurd (some (names_kept s i t (is_false (repeat_at s i) no)))) (decide (repeat_at s i))
 
-  pub so_far_few : (reasons from to succ : List ℕ) (i count : ℕ) → SoFar s old reasons from to succ i count → count ≤ i
-  so_far_few reasons from to succ i count h = omega (arith, h.counted, chosen_length (kept s) i)
+  pub so_far_few : (reasons succ : List ℕ) (pairs : KeptPairs) (i : ℕ) → SoFar s old reasons succ pairs i → pairs.count ≤ i
+  so_far_few reasons succ pairs i h = omega (arith, h.counted, chosen_length (kept s) i)
 
-  pub so_far_all : (reasons from to succ : List ℕ) (i n count : ℕ) → SoFar s old reasons from to succ i count → i ≡ n → SoFar s old reasons from to succ n count
-  so_far_all reasons from to succ i n count h e = rw e at h
+  pub so_far_all : (reasons succ : List ℕ) (pairs : KeptPairs) (i n : ℕ) → SoFar s old reasons succ pairs i → i ≡ n → SoFar s old reasons succ pairs n
+  so_far_all reasons succ pairs i n h e = rw e at h

@@ -1,5 +1,5 @@
 -- What the reasons say: the kept pairs have the order of those that name two different events, and on a sheet without fault every pair is kept.
-use Rattle.std.specs.Prelude.{ℕ, zero, suc, ◌<◌, ◌≤◌, Bool, ◌&&◌, ◌||◌, List, ◌↔◌, ◌≡◌}
+use Rattle.std.specs.Prelude.{ℕ, zero, suc, ◌<◌, ◌≤◌, Bool, ◌&&◌, ◌||◌, List, ◌↔◌, ◌≡◌, Option, Some, None}
 use Rattle.std.proofs.Common.{arith, true≢false, ⊎_elim, ap₂, ◌∙◌}
 use Rattle.std.proofs.Math.Bool.{true, false, not}
 use Rattle.std.proofs.Math.Path.{refl, sym, subst}
@@ -22,6 +22,9 @@ use Rattle.sheet.specs.Faultless.{Faultless}
 use Rattle.sheet.specs.Faults.{no_event_at, self_pair_at, same_pair, repeat_at}
 use Rattle.sheet.specs.Items.{earlier_at, later_at, plan_of}
 use Rattle.sheet.specs.Table.{events_of, pairs_of}
+use Rattle.reasons.specs.Bytes.{byte_of}
+use Rattle.reasons.specs.declared.Reason.{Reason}
+use Rattle.reasons.specs.declared.Reason.TheVariants.{NoEvent, OneEvent, Repeat}
 use Rattle.reasons.specs.Reasons.{reason, reason_at, kept, names_two, kept_plan, kept_count, kept_cycle}
 use Rattle.reasons.specs.Laws.{SameEnds, same_yes, yes_same}
 
@@ -49,6 +52,12 @@ is_repeat true y z t e = absurd t
 is_repeat false true z t e = absurd t
 is_repeat false false true t e = refl
 is_repeat false false false t e = absurd (true≢false (sym e))
+
+only_1 : (r : Option Reason) → byte_of r ≡ 1 → r ≡ Some NoEvent
+only_1 None e = absurd (omega arith)
+only_1 (Some NoEvent) e = refl
+only_1 (Some OneEvent) e = absurd (omega arith)
+only_1 (Some Repeat) e = absurd (omega arith)
 
 module _ (s : List ℕ) where
   pub kept_names : (i : ℕ) → T (kept s i) → T (names_two s i) × (repeat_at s i ≡ false)
@@ -87,9 +96,10 @@ module _ (s : List ℕ) where
       ends false false a b other = (leb-false _ _ a, leb-false _ _ b)
 
   -- so its ends are numbers of events
-  pub ends_few : (i a b r : ℕ) → events_of s ≤ most_events → a ≡ earlier_at s i → b ≡ later_at s i → r ≡ reason_at s i → ¬ (r ≡ 1) → (a < most_events) × (b < most_events)
+  pub ends_few : (i a b : ℕ) (r : Option Reason) → events_of s ≤ most_events → a ≡ earlier_at s i → b ≡ later_at s i → byte_of r ≡ reason_at s i
+      → ¬ (r ≡ Some NoEvent) → (a < most_events) × (b < most_events)
   ends_few i a b r few ea eb er other =
-      let names = unless_1 i (λ one. other (er ∙ one)) in
+      let names = unless_1 i (λ one. other (only_1 r (er ∙ one))) in
       (omega (arith, ea, names.0), omega (arith, eb, names.1))
 
   -- the same pair names the same events

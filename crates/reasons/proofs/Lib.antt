@@ -1,4 +1,3 @@
-mod Tests
 mod Rows
 mod Giving
 pub mod Laws

@@ -1,17 +1,24 @@
 -- The kept pairs in rows, of marks and of events, and the reason of a pair by those before it.
-use Rattle.std.specs.Prelude.{ℕ, ◌<◌, Bool, ◌&&◌, ◌||◌, List, ◌≡◌, eqb, leb, length, get_or}
+use Rattle.std.specs.Prelude.{ℕ, ◌+◌, ◌<◌, Bool, ◌&&◌, ◌||◌, List, ◌≡◌, eqb, leb, length, get_or}
 use Rattle.closure.specs.PlanRows.{Marks}
 use Rattle.finite.specs.Bounded.{any}
 use Rattle.finite.specs.Chosen.{chosen}
 use Rattle.finite.specs.Queue.{Stored}
 use Rattle.marks.specs.Marks.{marked, MarkAdded}
 use Rattle.sheet.specs.Items.{earlier_at, later_at}
-use Rattle.reasons.specs.Reasons.{reason, kept, names_two}
+use Rattle.sheet.specs.Table.{pairs_of}
+use Rattle.reasons.specs.declared.KeptPairs.{KeptPairs}
+use Rattle.reasons.specs.Reasons.{reason, kept, kept_count, names_two}
 
 -- Those of the first m pairs that are kept, in two rows: that of the earlier events and that of the later ones.
 pub record HoldsKept (s : List ℕ) (m : ℕ) (from to : List ℕ) : Type 0 where
   pub earlier : (k : ℕ) → k < length (chosen m (kept s)) → get_or from k 0 ≡ earlier_at s (get_or (chosen m (kept s)) k 0)
   pub later : (k : ℕ) → k < length (chosen m (kept s)) → get_or to k 0 ≡ later_at s (get_or (chosen m (kept s)) k 0)
+
+-- All pairs that are kept, and how many they are.
+pub record KeptOf (s : List ℕ) (pairs : KeptPairs) : Type 0 where
+  pub count : pairs.count ≡ kept_count s
+  pub holds : HoldsKept s (pairs_of s) pairs.from pairs.to
 
 -- pair i is (u, v), and names two different events
 abbrev pub proper_at : List ℕ → ℕ → ℕ → ℕ → Bool
@@ -29,12 +36,13 @@ KeptRows s m = Marks (is_proper s m)
 abbrev pub reason_by : ℕ → List ℕ → ℕ → ℕ → ℕ
 reason_by events succ a b = reason (leb events a || leb events b) (eqb a b) (marked succ a b)
 
--- A pair with a reason is marked if it is kept, and so many more are kept.
-pub record MarkedIfKept (old new : List ℕ) (a b reason more : ℕ) : Type 0 where
-  pub keeps : reason ≡ 0 → MarkAdded old new a b × (more ≡ 1)
-  pub drops : ¬ (reason ≡ 0) → (new ≡ old) × (more ≡ 0)
+-- The pair (a, b) is put behind the others.
+pub record Pushed (old new : KeptPairs) (a b : ℕ) : Type 0 where
+  pub earlier : Stored old.from new.from old.count a
+  pub later : Stored old.to new.to old.count b
+  pub more : new.count ≡ old.count + 1
 
--- One end of it is put into a row if it is kept.
-pub record PutIfKept (old new : List ℕ) (at x reason : ℕ) : Type 0 where
-  pub keeps : reason ≡ 0 → Stored old new at x
-  pub drops : ¬ (reason ≡ 0) → new ≡ old
+-- A pair with a reason is marked and put behind the others if it is kept.
+pub record KeptOrDropped (marks marks' : List ℕ) (old new : KeptPairs) (a b reason : ℕ) : Type 0 where
+  pub keeps : reason ≡ 0 → MarkAdded marks marks' a b × Pushed old new a b
+  pub drops : ¬ (reason ≡ 0) → (marks' ≡ marks) × (new ≡ old)

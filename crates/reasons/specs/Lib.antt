@@ -1,3 +1,4 @@
 pub mod Reasons
+pub mod Bytes
 pub mod KeptRows
 pub mod Laws

@@ -13,7 +13,7 @@ use Rattle.sheet.specs.Faults.{fault_of}
 use Rattle.sheet.proofs.Faultless.{faultless}
 use Rattle.calls.proofs.Call.{lower_first, long_row, row_known}
 use Rattle.calls.specs.Said.{said_answer, said_refusal}
-use Rattle.sheet.specs.declared.Fault.{Fault}
+use Rattle.sheet.specs.Told.{Told}
 use Rattle.plan_judgement.specs.Judgement.{plan_fault, plan_values, plan_says}
 use Rattle.place.specs.Place.{missing_at}
 use Rattle.summary.proofs.Laws.{first_fits}
@@ -28,8 +28,8 @@ module _ (s row : List ℕ) (long : most_places ≤ length row) where
   same_number =
       ⊎_elim
       (λ clear.
-      ap (λ (f : Fault). f.number) (long_row (fault_of s) row (places_of s) clear (omega (arith, (faultless s clear).laid.limited.places))) ∙ sym clear)
-      (λ there. ap (λ (f : Fault). f.number) (lower_first (fault_of s) row (places_of s) (λ clear. omega arith)))
+      ap (λ (f : Told). f.number) (long_row (fault_of s) row (places_of s) clear (omega (arith, (faultless s clear).laid.limited.places))) ∙ sym clear)
+      (λ there. ap (λ (f : Told). f.number) (lower_first (fault_of s) row (places_of s) (λ clear. omega arith)))
       (eq-zero-or-pos (fault_of s).number)
 
   pub till_is : number_said (plan_says s row) ≡ till_answer s

@@ -4,33 +4,31 @@
 
 ghost use Rattle.std.specs.Prelude.{◌≤◌, ◌≡◌};
 ghost use Rattle.ids.specs.Limits.{most_pairs};
-ghost use Rattle.sorting.specs.Rows.{plan_by, PlanInRows, has_cycle};
+ghost use Rattle.sorting.specs.InRows.{plan_in};
+ghost use Rattle.sorting.specs.Rows.{has_cycle};
 ghost use Rattle.rising.specs.Rising.{rising};
 
 use ids::PAIRS;
+use sorting::Pairs;
 
-// Whether each pair goes to a higher number.
-fn rises(pairs: usize, from: &[u8; PAIRS], to: &[u8; PAIRS]) -> bool
-    requires { pairs ≤ most_pairs }
-    ensures { result ≡ rising pairs from.now to.now }
+// Whether each pair goes to a higher number. All are looked at, which lets the compiler compare many at once; `all` would stop at the first that does not.
+fn rises(count: usize, from: &[u8; PAIRS], to: &[u8; PAIRS]) -> bool
+    requires { count ≤ most_pairs }
+    ensures { result ≡ rising count from.now to.now }
 {
     let mut up = true;
-    for i in 0..pairs {
-        up = up & (from[i] < to[i]);
+    for (a, b) in from[..count].iter().zip(&to[..count]) {
+        up = up & (a < b);
     }
     up
 }
 
 // Whether the pairs have a cycle.
-pub fn has_cycle(events: usize, pairs: usize, from: &[u8; PAIRS], to: &[u8; PAIRS]) -> bool
-    requires { PlanInRows events pairs from.now to.now }
-    ensures { result ≡ has_cycle (plan_by events pairs from.now to.now) }
+#[tactic(auto, using(crate::proofs::Rising::up_no_cycle, crate::proofs::Rising::down_no_cycle))]
+pub fn has_cycle(pairs: &Pairs) -> bool
+    ensures { result ≡ has_cycle (plan_in pairs.now) }
 {
-    if rises(pairs, from, to) {
-        return false;
-    }
-    if rises(pairs, to, from) {
-        return false;
-    }
-    sorting::has_cycle(events, pairs, from, to)
+    !rises(pairs.count, pairs.from, pairs.to)
+        && !rises(pairs.count, pairs.to, pairs.from)
+        && sorting::has_cycle(pairs)
 }

@@ -6,7 +6,7 @@ use mathlib.Core.List.{List}
 use mathlib.Core.Path.{◌≡◌, refl, sym, subst, ◌∙◌}
 use lib.Dec.{T}
 use Rattle.finite.specs.Count.{count_within_lem}
-use Rattle.finite.specs.Queue.{Stored, stored_below, below_next, queued_none}
+use Rattle.finite.specs.Queue.{Stored, stored_below, below_next, queued_none, queued_room}
 use Rattle.marks.specs.Marks.{marked}
 use Rattle.last_mark.specs.Found.{Only, none_only}
 use Rattle.search.specs.Row.{members, In, Empty, AllIn, in_marked, marked_in}
@@ -82,6 +82,10 @@ all_in {rows} {row} {i} none x l m = marked_in row x l (none_only rows i row 0 n
 
 pub unlisted : {rows row : List ℕ} {i x : ℕ} → Only rows i row 0 x → In row x → ⊥
 unlisted {row = row} {x = x} o h = o.second (in_marked row x h)
+
+-- the queue has room for one that is not yet listed
+pub room : {rows row queue : List ℕ} {i x tail : ℕ} → Listed row queue tail → Only rows i row 0 x → tail < 256
+room {x = x} q o = queued_room q x o.below (unlisted o)
 
 pub follow_more : {fed : List ℕ} {u : ℕ} {t s : Takers} {x : ℕ} {row queue origin : List ℕ} → Following fed u t s
     → Only fed u s.row 0 x → Joined s.row row x s.queue queue s.tail x → Stored s.origin origin s.tail u

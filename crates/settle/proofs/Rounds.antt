@@ -1,33 +1,27 @@
 -- From a search to a walk that draws, or to the end.
 use Prim.Native.Nat.{ℕ, ◌≤◌, ◌<◌}
 use native.Mathlib.Omega.{arith}
-use mathlib.Core.Bool.{Bool, true, false, not}
+use mathlib.Core.Bool.{Bool, true, false}
 use mathlib.Core.List.{List}
 use mathlib.Core.Logic.{⊎_elim}
 use mathlib.Core.Path.{◌≡◌, refl, sym, subst, ◌∙◌}
-use borrow.Author.Tests.{not-true, not-false}
-use lib.Dec.{leb, leb→le, T}
+use lib.Dec.{leb, leb→le, ltb, ltb→lt, T}
+use mir.Facts.{yes_ltb}
 use lib.ListN.{get_or}
 use native.Mathlib.Nat.{eq-zero-or-pos}
-use Rattle.finite.specs.Sum.{sum_of}
+use Rattle.finite.specs.Sum.{sum_of, sum_of_start, sum_of_more}
+use Rattle.std.specs.List as list
+use Rattle.std.proofs.lemmas.List.Sums.{sum_by_more}
+use Rattle.std.proofs.Common.{take, length, add-one, zero, suc, ◌+◌}
 use Rattle.tokenflow.specs.Rows.{Rows}
-use Rattle.tokenflow.specs.Flowing.{Flowing, lacking}
-use Rattle.drawing.specs.Moves.{Moved, Order}
+use Rattle.tokenflow.specs.Flowing.{lacking}
+use Rattle.drawing.specs.Moves.{Moved}
 use Rattle.marks.specs.Marks.{marked}
-use Rattle.search.specs.Row.{In, in_marked, marked_in}
-use Rattle.search.specs.Exhausted.{Narrow}
+use Rattle.search.specs.Row.{in_marked, marked_in}
 use Rattle.search.specs.Searched.{Searched}
 use Rattle.search.specs.Trail.{◌!◌, Takers, Givers, takers_of, givers_of}
 use Rattle.exchange.specs.Walk.{TrailRows, trail_rows, IsReady, Walked}
-use Rattle.settle.specs.Finished.{Finished, HasFree, Advanced, Rounded}
-
--- takers and givers are events
-pub narrow : {n : ℕ} {pred : List ℕ} {r : Rows} → Flowing n pred r → Order n pred → Narrow pred r.fed n
-narrow f o =
-    record {
-      back = λ w u lw lu t. o.events w u lu t;
-      onward = λ u w lu lw t. (f.named u w (omega (arith, f.events)) lw t).1;
-    }
+use Rattle.settle.specs.Finished.{Finished, FreeSaid, HasFree, Advanced, Rounded}
 
 -- a giver that a search met and that has tokens free is ready
 ready : {n : ℕ} {pred : List ℕ} (r : Rows) (m : TrailRows) {row : List ℕ} {tail : ℕ} {givers : List ℕ} {u : ℕ} → n ≤ 256
@@ -76,10 +70,6 @@ advance_some {n} {pred} {givers} {m} {r} {s} {r'} {u} drew few h w k =
     less true w row tail x = omega (arith, k.lacks)
     less false w row tail x = absurd (w row tail givers (ready r m few x h))
 
-pub advance_none : {n : ℕ} {pred givers : List ℕ} {m : TrailRows} {r : Rows} → ((u : ℕ) → HasFree givers r.free n u → ⊥)
-    → Advanced n pred givers m r r false
-advance_none h = record { less = λ e. absurd (subst T (sym e) tt); same = λ e. refl; none = λ e. h }
-
 -- what a search and the walks after it come to
 pub rounded : {n : ℕ} {pred : List ℕ} {r r' : Rows} {t : Takers} {g : Givers} {moved : Bool}
     → Searched pred r.fed r.share n t g → Advanced n pred g.row (trail_rows t.queue t.origin g.via) r r' moved
@@ -90,15 +80,28 @@ rounded {n} {pred} {r} {t = t} {g = g} s a =
       last = λ e. subst (λ (x : Rows). Finished n pred x t.row g.row) (sym (a.same e)) (finish r s (a.none e));
     }
 
+-- the first numbers of a list add up to their sum
+pub sum_first : (xs : List ℕ) (n : ℕ) → n ≤ length xs → list.sum (take n xs) ≡ sum_of xs n
+sum_first xs zero l = sym (sum_of_start xs)
+sum_first xs (suc n) l =
+    let before = sum_first xs n (omega arith) in
+    let below : n < length xs = omega arith in
+    let last : list.sum (take (n + 1) xs) ≡ list.sum (take n xs) + get_or xs n 0 = sum_by_more (λ x. x) xs n 0 below in
+    rw (← add-one) (omega (arith, before, last, sum_of_more xs n))
+
 -- what a test says of the shares, it says of what is lacking
 pub covered : (n enough : ℕ) (r : Rows) {said : Bool} → said ≡ leb (sum_of r.share n) enough → said ≡ true → lacking n r ≤ enough
 unfolding lacking sum_of
 covered n enough r e h = leb→le (sum_of r.share n) enough (subst T e (subst T (sym h) tt))
 
--- what a test of a mark says of a set
-module _ (row : List ℕ) (u : ℕ) {said : Bool} (e : said ≡ marked row 0 u) where
-  pub unmet : not said ≡ true → In row u → ⊥
-  unmet h there = subst T (sym e ∙ not-true _ h) (in_marked row u there)
+-- what the tests of a mark and of what is free say of a giver
+module _ (row free : List ℕ) (u : ℕ) {said : Bool} (e : said ≡ marked row 0 u) where
+  pub said_unmet : said ≡ false → FreeSaid row free u said
+  said_unmet h = rw h (λ there some. subst T (sym e ∙ h) (in_marked row u there))
 
-  pub met : not said ≡ false → u < 256 → In row u
-  met h l = marked_in row u l (subst T (sym (sym e ∙ not-false _ h)) tt)
+  pub said_met : u < 256 → said ≡ true → (k : ℕ) → k ≡ get_or free u 0 → FreeSaid row free u (ltb 0 k)
+  said_met below h k is = said_free (ltb 0 k) refl
+    where
+      said_free : (b : Bool) → ltb 0 k ≡ b → FreeSaid row free u b
+      said_free true t = (marked_in row u below (subst T (sym (sym e ∙ h)) tt), omega (arith, is, ltb→lt 0 k (subst T (sym t) tt)))
+      said_free false t = λ there some. subst T t (yes_ltb {a = 0} {b = k} (omega (arith, is, some)))

@@ -2,45 +2,34 @@
 // tokens free.
 #![tactic(auto)]
 
-ghost use Rattle.std.specs.Prelude.{◌<◌, ◌≤◌, ◌≡◌, leb, replicate};
+ghost use Rattle.std.specs.Prelude.{◌<◌, ◌≤◌, ◌≡◌, leb, length, replicate, sum};
 ghost use Rattle.finite.specs.Sum.{sum_of};
 ghost use Rattle.ids.specs.Limits.{most_events};
-ghost use Rattle.tokenflow.specs.Rows.{rows};
-ghost use Rattle.drawing.specs.Moves.{Holds, Moves, Order};
+ghost use Rattle.tokenflow.specs.Flowing.{Flowing};
+ghost use Rattle.drawing.specs.Moves.{Moved, Order};
 ghost use Rattle.exchange.specs.Walk.{trail_rows, TellsGiver};
 ghost use Rattle.settle.specs.Finished.{Advanced, Ended, FreeSaid, HasFree, Rounded};
 
-use exchange::{Giver, walk};
+use exchange::walk;
 use ids::{EVENTS, Event, ROWS, WORDS};
 use push::push;
-use search::search;
+use search::{Trail, search};
+use tokenflow::Flow;
 
 // Whether u was met and has tokens free.
-fn has_free(givers: &[u32; WORDS], free: &[u32; EVENTS], u: Event) -> bool
+fn has_free(givers: &[u32; WORDS], flow: &Flow, u: Event) -> bool
     requires { u.0 < most_events }
-    ensures { FreeSaid givers.now free.now u.0 result }
+    ensures { FreeSaid givers.now flow.now.free u.0 result }
 {
-    if !marks::is_marked(givers, 0, u.0) {
-        return false;
-    }
-    let i = u.0;
-    if free[i] == 0 {
-        return false;
-    }
-    true
+    marks::is_marked(givers, 0, u.0) && flow.free(u) > 0
 }
 
 // A giver that was met and has tokens free.
-fn find_free(givers: &[u32; WORDS], free: &[u32; EVENTS], n: usize) -> Giver
+fn find_free(givers: &[u32; WORDS], flow: &Flow, n: usize) -> Option<Event>
     requires { n ≤ most_events }
-    ensures { TellsGiver (HasFree givers.now free.now n) result }
+    ensures { TellsGiver (HasFree givers.now flow.now.free n) result }
 {
-    for u in 0..n {
-        if has_free(givers, free, Event(u)) {
-            return Giver::At(Event(u));
-        }
-    }
-    Giver::Nothing
+    (0..n).map(Event).find(|u| has_free(givers, flow, *u))
 }
 
 // Walks from a giver that was met and has tokens free, and then pushes what is free down the levels of the search. Returns whether there
@@ -48,63 +37,56 @@ fn find_free(givers: &[u32; WORDS], free: &[u32; EVENTS], n: usize) -> Giver
 fn advance(
     pred: &[u32; ROWS],
     givers: &[u32; WORDS],
-    queue: &[usize; EVENTS],
-    origin: &[usize; EVENTS],
-    via: &[usize; EVENTS],
-    amount: &mut [u32],
-    fed: &mut [u32; ROWS],
-    free: &mut [u32; EVENTS],
-    share: &mut [u32; EVENTS],
+    trail: &Trail,
+    flow: &mut Flow,
     tail: usize,
     n: usize,
 ) -> bool
-    requires holds { Holds n pred.now amount.old fed.old free.old share.old }
+    requires holds { Flowing n pred.now flow.old }
     requires order { Order n pred.now }
     requires tail_le_most_events { tail ≤ most_events }
-    ensures moves { Moves n pred.now amount.old amount.new fed.old fed.new free.old free.new share.old share.new }
-    ensures advanced { Advanced n pred.now givers.now (trail_rows queue.now origin.now via.now)
-        (rows amount.old fed.old free.old share.old) (rows amount.new fed.new free.new share.new) result }
+    ensures moves { Moved n pred.now flow.old flow.new }
+    ensures advanced { Advanced n pred.now givers.now (trail_rows trail.now.queue trail.now.origin trail.now.via) flow.old flow.new result }
 {
-    let found = find_free(givers, free, n);
-    let Giver::At(u) = found else {
+    let Some(u) = find_free(givers, flow, n) else {
         return false;
     };
-    walk(pred, queue, origin, via, amount, fed, free, share, u, n);
-    push(pred, queue, origin, via, amount, fed, free, share, tail, n);
+    walk(pred, trail, flow, u, n);
+    push(pred, trail, flow, tail, n);
     true
 }
 
 // Forgets by way of which place each giver was met, so that a push after the next search looks at those of that search only.
-fn forget(via: &mut [usize; EVENTS])
-    ensures { via.new ≡ replicate most_events most_events }
+fn forget(trail: &mut Trail)
+    ensures { trail.new.via ≡ replicate most_events most_events }
 {
-    *via = [EVENTS; EVENTS];
+    trail.via = [EVENTS; EVENTS];
 }
 
 // One search, and the moves that it leads to. Returns whether less is lacking now.
 fn round(
     pred: &[u32; ROWS],
-    amount: &mut [u32],
-    fed: &mut [u32; ROWS],
-    free: &mut [u32; EVENTS],
-    share: &mut [u32; EVENTS],
+    flow: &mut Flow,
     takers: &mut [u32; WORDS],
     givers: &mut [u32; WORDS],
-    queue: &mut [usize; EVENTS],
-    origin: &mut [usize; EVENTS],
-    via: &mut [usize; EVENTS],
+    trail: &mut Trail,
     n: usize,
 ) -> bool
-    requires holds { Holds n pred.now amount.old fed.old free.old share.old }
+    requires holds { Flowing n pred.now flow.old }
     requires order { Order n pred.now }
-    ensures moves { Moves n pred.now amount.old amount.new fed.old fed.new free.old free.new share.old share.new }
-    ensures rounded { Rounded n pred.now (rows amount.old fed.old free.old share.old) (rows amount.new fed.new free.new share.new)
-        takers.new givers.new result }
+    ensures moves { Moved n pred.now flow.old flow.new }
+    ensures rounded { Rounded n pred.now flow.old flow.new takers.new givers.new result }
 {
-    let tail = search(pred, fed, share, n, takers, givers, queue, origin, via);
-    advance(
-        pred, givers, queue, origin, via, amount, fed, free, share, tail, n,
-    )
+    let tail = search(pred, flow.fed, flow.share, n, takers, givers, trail);
+    advance(pred, givers, trail, flow, tail, n)
+}
+
+// The sum of at most 256 numbers. It stands apart since how long a slice is bounds its sum.
+fn total(numbers: &[u32]) -> u64
+    requires { length numbers.now ≤ most_events }
+    ensures { result ≡ sum numbers.now }
+{
+    numbers.iter().map(|x| u64::from(*x)).sum()
 }
 
 // Whether the takers lack no more than is enough.
@@ -112,77 +94,47 @@ fn is_covered(share: &[u32; EVENTS], n: usize, enough: u32) -> bool
     requires { n ≤ most_events }
     ensures { result ≡ leb (sum_of share.now n) enough }
 {
-    let mut left = enough;
-    for w in 0..n {
-        if share[w] > left {
-            return false;
-        }
-        left -= share[w];
-    }
-    true
+    total(&share[..n]) <= u64::from(enough)
 }
 
 // Rounds until what is lacking is within `enough` or the search is the last. Each round but the last leaves less lacking. Where a search
 // starts it writes no origin; 256 stays there, which names no event, since later searches start at no more takers.
 fn settle_by_rounds(
     pred: &[u32; ROWS],
-    amount: &mut [u32],
-    fed: &mut [u32; ROWS],
-    free: &mut [u32; EVENTS],
-    share: &mut [u32; EVENTS],
+    flow: &mut Flow,
     givers: &mut [u32; WORDS],
     enough: u32,
     n: usize,
 )
-    requires holds { Holds n pred.now amount.old fed.old free.old share.old }
+    requires holds { Flowing n pred.now flow.old }
     requires order { Order n pred.now }
-    ensures moves { Moves n pred.now amount.old amount.new fed.old fed.new free.old free.new share.old share.new }
-    ensures ended { Ended n pred.now enough (rows amount.new fed.new free.new share.new) givers.new }
+    ensures moves { Moved n pred.now flow.old flow.new }
+    ensures ended { Ended n pred.now enough flow.new givers.new }
 {
     let mut takers = [0u32; WORDS];
-    let mut queue = [0usize; EVENTS];
-    let mut origin = [EVENTS; EVENTS];
-    let mut via = [EVENTS; EVENTS];
-    while !is_covered(share, n, enough) {
-        let less = round(
-            pred,
-            amount,
-            fed,
-            free,
-            share,
-            &mut takers,
-            givers,
-            &mut queue,
-            &mut origin,
-            &mut via,
-            n,
-        );
+    let mut trail = Trail {
+        queue: [0; EVENTS],
+        origin: [EVENTS; EVENTS],
+        via: [EVENTS; EVENTS],
+    };
+    while !is_covered(flow.share, n, enough) {
+        let less = round(pred, flow, &mut takers, givers, &mut trail, n);
         if !less {
             return;
         }
-        forget(&mut via);
+        forget(&mut trail);
     }
 }
 
 // Settles a place: the opening count is enough where only what is missing is wanted, and 0 where the least opening count is. Where what is
 // lacking is within `enough` already, no rows for a search are made.
-pub fn settle(
-    pred: &[u32; ROWS],
-    amount: &mut [u32],
-    fed: &mut [u32; ROWS],
-    free: &mut [u32; EVENTS],
-    share: &mut [u32; EVENTS],
-    givers: &mut [u32; WORDS],
-    enough: u32,
-    n: usize,
-)
-    requires holds { Holds n pred.now amount.old fed.old free.old share.old }
+pub fn settle(pred: &[u32; ROWS], flow: &mut Flow, givers: &mut [u32; WORDS], enough: u32, n: usize)
+    requires holds { Flowing n pred.now flow.old }
     requires order { Order n pred.now }
-    ensures moves { Moves n pred.now amount.old amount.new fed.old fed.new free.old free.new share.old share.new }
-    ensures ended { Ended n pred.now enough (rows amount.new fed.new free.new share.new) givers.new }
+    ensures moves { Moved n pred.now flow.old flow.new }
+    ensures ended { Ended n pred.now enough flow.new givers.new }
 {
-    if is_covered(share, n, enough) {
-        return;
+    if !is_covered(flow.share, n, enough) {
+        settle_by_rounds(pred, flow, givers, enough, n);
     }
-    settle_by_rounds(pred, amount, fed, free, share, givers, enough, n);
 }

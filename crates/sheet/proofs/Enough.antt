@@ -10,8 +10,7 @@ use Rattle.sheet.specs.Table.{table_length, start, count, limit, item_length, it
 use Rattle.sheet.specs.Faults.{too_short, over_limit_at, over_limit, misplaced_at, misplaced, late_at, late, early_at, early, wrong_end, layout_faults, first_fault, fault_of}
 use Rattle.sheet.specs.Laid.{longest}
 use Rattle.sheet.proofs.Faultless.{layout_laid, layout_decides}
-use Rattle.sheet.specs.Told.{no_fault, tell, plain, or_else, else_next}
-use Rattle.sheet.specs.declared.Fault.{Fault}
+use Rattle.sheet.specs.Told.{no_fault, tell, plain, or_else, else_next, Told}
 use Rattle.sheet.specs.Enough.{enough_bytes, enough}
 
 -- The table is within it.
@@ -58,7 +57,7 @@ late_enough s =
     (ap (late_at (enough s)) (starts_enough s) ∙ same.0, ap (early_at (enough s)) (starts_enough s) ∙ same.1)
 
 -- A sheet that isn't too short has the first of faults 2, 14, 15 and 4, if any. One that is too long has one of them.
-abbrev of_four : Bool → Bool → Bool → Bool → Fault
+abbrev of_four : Bool → Bool → Bool → Bool → Told
 of_four two late early four =
     or_else (tell 2 (plain two)) (or_else (tell 14 (plain late)) (or_else (tell 15 (plain early)) (or_else (tell 4 (plain four)) no_fault)))
 
@@ -96,13 +95,13 @@ module _ (s : List ℕ) (long : enough_bytes ≤ length s) where
       let whole = long_fault s (omega arith) in
       of_four_lem
       ∙ same_fault (over_limit s) (late s) (early s) (wrong_end (enough s)) (wrong_end s)
-      (λ e. too_long (enough s) (omega (arith, size)) (ap (λ (f : Fault). f.number) of_four_lem ∙ e))
-      (λ e. too_long s long (ap (λ (f : Fault). f.number) whole ∙ e))
+      (λ e. too_long (enough s) (omega (arith, size)) (ap (λ (f : Told). f.number) of_four_lem ∙ e))
+      (λ e. too_long s long (ap (λ (f : Told). f.number) whole ∙ e))
       ∙ sym whole
 
   -- a sheet that is too long is faulty, and so is that much of it
   pub long_faulty : ¬ ((fault_of s).number ≡ 0)
-  long_faulty clear = too_long s long (ap (λ (f : Fault). f.number) (sym (layout_decides s (too_long s long))) ∙ clear)
+  long_faulty clear = too_long s long (ap (λ (f : Told). f.number) (sym (layout_decides s (too_long s long))) ∙ clear)
 
   fault_long : fault_of (enough s) ≡ fault_of s
   fault_long =

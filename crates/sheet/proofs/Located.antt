@@ -5,8 +5,7 @@ use Rattle.std.proofs.Math.Option.{Option, none, some}
 use Rattle.std.proofs.Math.Facts.{and_yes}
 use Rattle.finite.proofs.First.{first_is}
 use Rattle.sheet.specs.Table.{start, due, places_of, transitions_of, events_of, pairs_of}
-use Rattle.sheet.specs.Told.{no_fault, fault_at, tell, plain, plain_item, or_else, else_next, else_first}
-use Rattle.sheet.specs.declared.Fault.{Fault}
+use Rattle.sheet.specs.Told.{no_fault, fault_at, tell, plain, plain_item, or_else, else_next, else_first, Told}
 use Rattle.sheet.specs.Faults.{too_short, over_limit, misplaced_at, misplaced, late_at, late, early_at, early, wrong_end, over_opening_at, over_opening, over_weight_in, over_weight}
 use Rattle.sheet.specs.Faults.{no_transition_at, no_transition, no_event_at, no_event, self_pair_at, self_pair, repeat_at, repeated, cyclic}
 use Rattle.sheet.specs.Faults.{Finder, layout_faults, number_faults, pair_faults, order_faults, content_faults, faults, first_fault, fault_of}
@@ -15,7 +14,7 @@ use Rattle.sheet.specs.Located.{FaultSays, fault_none, fault_1, fault_2, fault_1
 -- ---- the proof
 
 -- what holds of each fault of a list that is found, and where there is none, holds of the first
-abbrev Each : (Fault → Type 0) → List (ℕ × Finder) → List ℕ → Type 0
+abbrev Each : (Told → Type 0) → List (ℕ × Finder) → List ℕ → Type 0
 Each X [] s = Unit
 Each X (f ∷ fs) s = ((i : ℕ) → f.1 s ≡ some i → X (fault_at f.0 i)) × Each X fs s
 
@@ -27,11 +26,11 @@ abbrev numbered : List (ℕ × Finder) → Bool
 numbered [] = true
 numbered (f ∷ fs) = ltb 0 f.0 && numbered fs
 
-or_each : (X : Fault → Type 0) (k : ℕ) (o : Option ℕ) (rest : Fault) → 0 < k → ((i : ℕ) → o ≡ some i → X (fault_at k i)) → X rest → X (or_else (tell k o) rest)
+or_each : (X : Told → Type 0) (k : ℕ) (o : Option ℕ) (rest : Told) → 0 < k → ((i : ℕ) → o ≡ some i → X (fault_at k i)) → X rest → X (or_else (tell k o) rest)
 or_each X k none rest l here h = subst X (sym (else_next no_fault rest refl)) h
 or_each X k (some i) rest l here h = subst X (sym (else_first (fault_at k i) rest (λ z. omega arith))) (here i refl)
 
-first_each : (X : Fault → Type 0) (fs : List (ℕ × Finder)) (s : List ℕ) → T (numbered fs) → X no_fault → Each X fs s → X (first_fault fs s)
+first_each : (X : Told → Type 0) (fs : List (ℕ × Finder)) (s : List ℕ) → T (numbered fs) → X no_fault → Each X fs s → X (first_fault fs s)
 unfolding first_fault
 first_each X [] s l h each = h
 first_each X (f ∷ fs) s l h each =

@@ -9,8 +9,7 @@ use Rattle.sheet.specs.Items.{opening_at, takes_at, gives_at, label_at, earlier_
 use Rattle.sheet.specs.Faults.{too_short, over_limit_at, over_limit, misplaced_at, misplaced, late, early, wrong_end, over_opening_at, over_opening, over_weight_at, over_weight_in, over_weight}
 use Rattle.sheet.specs.Faults.{no_transition_at, no_transition, no_event_at, no_event, self_pair_at, self_pair, same_pair, repeat_at, repeated, cycle_at}
 use Rattle.sheet.specs.Faults.{cyclic, layout_faults, number_faults, pair_faults, order_faults, content_faults, faults, first_fault, fault_of}
-use Rattle.sheet.specs.Told.{fault_at, no_fault, or_else}
-use Rattle.sheet.specs.declared.Fault.{Fault}
+use Rattle.sheet.specs.Told.{fault_at, no_fault, or_else, Told}
 
 -- a table of four entries, of numbers below 256: each start and count
 table : ℕ → ℕ → ℕ → ℕ → ℕ → ℕ → ℕ → ℕ → List ℕ
@@ -40,7 +39,7 @@ put : ℕ → ℕ → ℕ → ℕ → ℕ → List ℕ
 put at a b c d = set (set (set (set listing at a) (at + 1) b) (at + 2) c) (at + 3) d
 
 -- sheets, and the fault that each has to have
-pub faulty : List (List ℕ × Fault)
+pub faulty : List (List ℕ × Told)
 faulty =
     (listing, no_fault)
     -- the empty sheet
@@ -138,7 +137,7 @@ pub right : List (ℕ × ℕ) → Bool
 right [] = true
 right (x ∷ xs) = eqb x.0 x.1 && right xs
 
-pub told : List (List ℕ × Fault) → Bool
+pub told : List (List ℕ × Told) → Bool
 told [] = true
 told (x ∷ xs) = eqb (fault_of x.0).number x.1.number && eqb (fault_of x.0).item x.1.item && told xs
 

@@ -11,8 +11,7 @@ use Rattle.sheet.specs.Table.{places_of, transitions_of, events_of, pairs_of}
 use Rattle.sheet.specs.Items.{opening_at, takes_at, gives_at, label_at, earlier_at, later_at, net_of, plan_of}
 use Rattle.sheet.specs.Faults.{no_event_at, no_event, Finder, first_fault}
 use Rattle.sheet.specs.Laid.{Laid}
-use Rattle.sheet.specs.Told.{no_fault, fault_at, tell, or_else, else_next, else_first}
-use Rattle.sheet.specs.declared.Fault.{Fault}
+use Rattle.sheet.specs.Told.{no_fault, fault_at, tell, or_else, else_next, else_first, Told}
 
 -- no fault of a list is there
 abbrev pub Absent : List (ℕ × Finder) → List ℕ → Type 0
@@ -24,11 +23,11 @@ abbrev pub Numbered : List (ℕ × Finder) → Type 0
 Numbered [] = Unit
 Numbered (f ∷ fs) = T (ltb 0 f.0) × Numbered fs
 
-passed : (k : ℕ) (o : Option ℕ) (rest : Fault) → 0 < k → (or_else (tell k o) rest).number ≡ 0 → (o ≡ none) × (rest.number ≡ 0)
-passed k none rest l e = (refl, ap (λ (f : Fault). f.number) (sym (else_next no_fault rest refl)) ∙ e)
+passed : (k : ℕ) (o : Option ℕ) (rest : Told) → 0 < k → (or_else (tell k o) rest).number ≡ 0 → (o ≡ none) × (rest.number ≡ 0)
+passed k none rest l e = (refl, ap (λ (f : Told). f.number) (sym (else_next no_fault rest refl)) ∙ e)
 passed k (some i) rest l e =
     let first = else_first (fault_at k i) rest (λ z. omega arith) in
-    absurd (omega (arith, ap (λ (f : Fault). f.number) first))
+    absurd (omega (arith, ap (λ (f : Told). f.number) first))
 
 pub absent : (fs : List (ℕ × Finder)) (s : List ℕ) → Numbered fs → (first_fault fs s).number ≡ 0 → Absent fs s
 unfolding first_fault

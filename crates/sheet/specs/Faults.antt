@@ -6,8 +6,7 @@ use Rattle.finite.specs.First.{first}
 use Rattle.plan.specs.Order.{before}
 use Rattle.sheet.specs.Table.{table_length, start, count, limit, body_end, due, places_of, transitions_of, events_of, pairs_of}
 use Rattle.sheet.specs.Items.{opening_at, takes_at, gives_at, label_at, earlier_at, later_at, plan_of}
-use Rattle.sheet.specs.Told.{no_fault, tell, plain, or_else}
-use Rattle.sheet.specs.declared.Fault.{Fault}
+use Rattle.sheet.specs.Told.{no_fault, tell, plain, or_else, Told}
 
 -- 1: fewer bytes than the table has
 unfoldable pub too_short : List ℕ → Bool
@@ -134,10 +133,10 @@ unfoldable pub faults : List (ℕ × Finder)
 faults = layout_faults ++ content_faults
 
 -- the first fault of a list that a sheet has
-unfoldable pub first_fault : List (ℕ × Finder) → List ℕ → Fault
+unfoldable pub first_fault : List (ℕ × Finder) → List ℕ → Told
 first_fault [] s = no_fault
 first_fault (f ∷ fs) s = or_else (tell f.0 (f.1 s)) (first_fault fs s)
 
 -- the fault of a sheet
-unfoldable pub fault_of : List ℕ → Fault
+unfoldable pub fault_of : List ℕ → Told
 fault_of s = first_fault faults s

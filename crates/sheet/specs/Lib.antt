@@ -1,6 +1,7 @@
 pub mod Table
 pub mod Items
 pub mod Told
+pub mod Answered
 pub mod Faults
 pub mod Laid
 pub mod Faultless

@@ -1,39 +1,66 @@
-// What the bytes of a sheet say: its contents table, its items, its net and plan, and its faults, in specs/. Here only the struct in which
+// What the bytes of a sheet say: its contents table, its items, its net and plan, and its faults, in specs/. Here only the enum in which
 // every call tells a fault.
 #![tactic(auto)]
 
-ghost use Rattle.std.specs.Prelude.{◌<◌, ◌≡◌};
-ghost use Rattle.ids.specs.Limits.{most_pairs};
-ghost use Rattle.sheet.specs.Told.{fault_at, no_fault};
+ghost use Rattle.std.specs.Prelude.{◌≡◌};
+ghost use Rattle.sheet.specs.Answered.{told};
 
-// The number of a fault and the item at fault: the number of a place, transition, event or pair, 0 where the fault has none. Both are 0
-// where there is no fault.
-#[derive(Clone, Copy)]
-pub struct Fault {
-    pub number: u32,
-    pub item: u32,
+// What is wrong with a sheet, or with the rows that are lent with it. Where an item is at fault its number stands beside: that of a place, a
+// transition, an event or a pair.
+#[derive(Clone, Copy, PartialEq, Eq)]
+pub enum Fault {
+    TooShort,
+    OverLimit,
+    StartsLate,
+    StartsEarly,
+    WrongEnd,
+    OverOpening(u32),
+    OverWeight(u32),
+    NoTransition(u32),
+    NoEvent(u32),
+    SelfPair(u32),
+    Repeated(u32),
+    Cycle,
+    NoPlace,
+    ShortRow,
 }
 
-pub fn no_fault() -> Fault
-    ensures { result ≡ no_fault }
-{
-    Fault { number: 0, item: 0 }
-}
+impl Fault {
+    // The number by which C and the listing know it.
+    // By hand, since C's header promises these numbers, which don't follow the order of the cases.
+    pub fn number(self) -> u32
+        ensures { result ≡ (told self).number }
+    {
+        match self {
+            Fault::TooShort => 1,
+            Fault::OverLimit => 2,
+            Fault::WrongEnd => 4,
+            Fault::OverOpening(_) => 5,
+            Fault::OverWeight(_) => 6,
+            Fault::NoTransition(_) => 7,
+            Fault::NoEvent(_) => 8,
+            Fault::SelfPair(_) => 9,
+            Fault::Repeated(_) => 10,
+            Fault::Cycle => 11,
+            Fault::NoPlace => 12,
+            Fault::ShortRow => 13,
+            Fault::StartsLate => 14,
+            Fault::StartsEarly => 15,
+        }
+    }
 
-// A fault that has no item.
-pub fn plain_fault(number: u32) -> Fault
-    ensures { result ≡ fault_at number 0 }
-{
-    Fault { number, item: 0 }
-}
-
-// The fault of item i.
-pub fn item_fault(number: u32, i: usize) -> Fault
-    requires { i < most_pairs }
-    ensures { result ≡ fault_at number i }
-{
-    Fault {
-        number,
-        item: i as u32,
+    // The item at fault, 0 where the fault has none.
+    pub fn item(self) -> u32
+        ensures { result ≡ (told self).item }
+    {
+        match self {
+            Fault::OverOpening(i)
+            | Fault::OverWeight(i)
+            | Fault::NoTransition(i)
+            | Fault::NoEvent(i)
+            | Fault::SelfPair(i)
+            | Fault::Repeated(i) => i,
+            _ => 0,
+        }
     }
 }

@@ -1,92 +1,58 @@
 // A place judged with working rows as long as the plan needs them.
 #![tactic(auto)]
 
-ghost use Rattle.std.specs.Prelude.{◌<◌, ◌≤◌};
+ghost use Rattle.std.specs.Prelude.{◌*◌, ◌<◌, ◌≤◌};
 ghost use Rattle.handing.specs.Known.{Judgeable, JudgedBy};
-ghost use Rattle.ids.specs.Limits.{most_events, small_plan, middle_plan};
+ghost use Rattle.ids.specs.Limits.{most_events};
+ghost use Rattle.sheet.specs.Table.{events_of};
 
 use handing::judge_in;
-use ids::{MIDDLE, MIDDLE_SQUARE, Place, ROWS, SMALL, SMALL_SQUARE, SQUARE};
-use layout::Layout;
+use ids::{MIDDLE, MIDDLE_SQUARE, Place, SMALL, SMALL_SQUARE, SQUARE};
+use order::Order;
+use reader::Reader;
 
-// Judges with the amounts of a small plan.
-fn judge_small(
-    s: &[u8],
-    l: Layout,
+// Judges with N amounts. Each size has a frame of its own, which no call of another size takes: the hint keeps it so where the compiler makes a loop of the
+// call of itself below.
+#[inline(never)]
+fn judge_with<const N: usize>(
+    sheet: &Reader,
     p: Place,
-    succ: &[u32; ROWS],
-    pred: &[u32; ROWS],
+    order: &Order,
     flow: &mut [u32],
     marks: &mut [u8],
 ) -> i32
-    requires judgeable { Judgeable s.now l p succ.now pred.now flow.old marks.old }
-    requires events_le_small_plan { l.events ≤ small_plan }
-    ensures { JudgedBy s.now p flow.old flow.new marks.old marks.new result }
+    requires judgeable { Judgeable sheet.now p order.now.succ order.now.pred flow.old marks.old }
+    requires room { events_of sheet.now * most_events ≤ N }
+    requires size { N ≤ most_events * most_events }
+    ensures { JudgedBy sheet.now p flow.old flow.new marks.old marks.new result }
 {
-    let mut amount = [0u32; SMALL_SQUARE];
-    judge_in(s, l, p, succ, pred, &mut amount, flow, marks)
-}
-
-// Judges with the amounts of a middling plan.
-fn judge_middle(
-    s: &[u8],
-    l: Layout,
-    p: Place,
-    succ: &[u32; ROWS],
-    pred: &[u32; ROWS],
-    flow: &mut [u32],
-    marks: &mut [u8],
-) -> i32
-    requires judgeable { Judgeable s.now l p succ.now pred.now flow.old marks.old }
-    requires events_le_middle_plan { l.events ≤ middle_plan }
-    ensures { JudgedBy s.now p flow.old flow.new marks.old marks.new result }
-{
-    let mut amount = [0u32; MIDDLE_SQUARE];
-    judge_in(s, l, p, succ, pred, &mut amount, flow, marks)
-}
-
-// Judges with the amounts of any plan.
-fn judge_large(
-    s: &[u8],
-    l: Layout,
-    p: Place,
-    succ: &[u32; ROWS],
-    pred: &[u32; ROWS],
-    flow: &mut [u32],
-    marks: &mut [u8],
-) -> i32
-    requires judgeable { Judgeable s.now l p succ.now pred.now flow.old marks.old }
-    requires events_le_most_events { l.events ≤ most_events }
-    ensures { JudgedBy s.now p flow.old flow.new marks.old marks.new result }
-{
-    let mut amount = [0u32; SQUARE];
-    judge_in(s, l, p, succ, pred, &mut amount, flow, marks)
+    let mut amount = [0u32; N];
+    judge_in(sheet, p, order, &mut amount, flow, marks)
 }
 
 // Judges with the amounts of a plan of at most `most` events, and with four times as many while the plan has more. As in
 // `sized_counts::count_within` the call of itself keeps each row in a frame of its own.
+// The sizes stand here as in `sized_counts`: one ladder for both would take what is done at a size as a closure, and that call is what keeps the frames apart.
 pub fn judge_within(
-    s: &[u8],
-    l: Layout,
+    sheet: &Reader,
     p: Place,
-    succ: &[u32; ROWS],
-    pred: &[u32; ROWS],
+    order: &Order,
     flow: &mut [u32],
     marks: &mut [u8],
     most: usize,
 ) -> i32
-    requires judgeable { Judgeable s.now l p succ.now pred.now flow.old marks.old }
-    requires most_nonzero { (0 < most) × (l.events ≤ most_events) }
-    ensures { JudgedBy s.now p flow.old flow.new marks.old marks.new result }
+    requires judgeable { Judgeable sheet.now p order.now.succ order.now.pred flow.old marks.old }
+    requires some { 0 < most }
+    ensures { JudgedBy sheet.now p flow.old flow.new marks.old marks.new result }
 {
-    if l.events > most {
-        return judge_within(s, l, p, succ, pred, flow, marks, 4 * most);
+    if sheet.events() > most {
+        return judge_within(sheet, p, order, flow, marks, 4 * most);
     }
     if most <= SMALL {
-        return judge_small(s, l, p, succ, pred, flow, marks);
+        return judge_with::<SMALL_SQUARE>(sheet, p, order, flow, marks);
     }
     if most <= MIDDLE {
-        return judge_middle(s, l, p, succ, pred, flow, marks);
+        return judge_with::<MIDDLE_SQUARE>(sheet, p, order, flow, marks);
     }
-    judge_large(s, l, p, succ, pred, flow, marks)
+    judge_with::<SQUARE>(sheet, p, order, flow, marks)
 }

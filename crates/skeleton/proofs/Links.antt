@@ -103,20 +103,17 @@ module _ {s : List ℕ} (known : Faultless s) {i a b : ℕ} (lm : i < pairs_of s
     answer : skeleton (plan_of s) i ≡ r
     answer = sym (told ∙ rw (at_a, at_b) (skeleton_marked s known succ pred rows i lm))
 
-    module _ {skel index skel' index' : List ℕ} (l : Linked (plan_of s) i skel index) where
-      pub link_skip : r ≡ false → skel' ≡ skel → index' ≡ index → Linked (plan_of s) (i + 1) skel' index'
-      link_skip away e f = rw (e, f) (skip l room (answer ∙ away))
+    module _ {skel index : List ℕ} (l : Linked (plan_of s) i skel index) where
+      pub link_skip : r ≡ false → Linked (plan_of s) (i + 1) skel index
+      link_skip away = skip l room (answer ∙ away)
 
-      pub link_more : {skel₁ index₁ : List ℕ} → r ≡ true → MarkAdded skel skel₁ b a → PairListed index index₁ a b i → skel' ≡ skel₁ → index' ≡ index₁
-          → Linked (plan_of s) (i + 1) skel' index'
-      link_more bare added new e f =
-          rw
-          (e, f)
-          (more
+      pub link_more : {skel' index' : List ℕ} → r ≡ true → MarkAdded skel skel' b a → PairListed index index' a b i → Linked (plan_of s) (i + 1) skel' index'
+      link_more bare added new =
+          more
           l
           room
           (λ j h. omega (arith, known.earlier j (omega arith), known.laid.limited.events))
           (answer ∙ bare)
           (omega (arith, within))
           (rw (at_a, at_b) at added)
-          (rw (at_a, at_b) at new))
+          (rw (at_a, at_b) at new)

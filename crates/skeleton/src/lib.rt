@@ -1,4 +1,5 @@
 // The skeleton pairs of a sheet in rows: a mark for each, and an index by which its number is found.
+// Numbers are cast to fewer bits, which loses nothing, as the check proves: `TryFrom` would need an answer for what can't come.
 #![tactic(auto)]
 
 ghost use Rattle.std.specs.Prelude.{◌≤◌, ◌<◌, ◌≡◌, get_or, length};
@@ -6,22 +7,42 @@ ghost use Rattle.ids.specs.Limits.{most_events, most_pairs};
 ghost use Rattle.sheet.specs.Table.{pairs_of};
 ghost use Rattle.sheet.specs.Items.{plan_of};
 ghost use Rattle.sheet.specs.Faultless.{Faultless};
-ghost use Rattle.layout.specs.Layout.{LayoutOf};
 ghost use Rattle.order.specs.Rows.{Blank, OrderRows};
 ghost use Rattle.skeleton.specs.Linked.{Linked, MayFind, FoundAt};
 ghost use Rattle.skeleton.specs.Lists.{index_size, Unlisted, PairListed};
 
 use closure::is_skeleton;
 use ids::{EVENTS, Event, PAIRS, ROWS};
-use layout::Layout;
-use lookup::{earlier, later};
 use marks::mark;
+use order::Order;
+use reader::Reader;
 
 // The index: for each event the number after that of its last skeleton pair, for each pair that of the one listed before it (0: none), and then
 // the event where it starts.
+// One row of fixed size for three lists: nothing is on the heap.
 pub const INDEX: usize = EVENTS + PAIRS + PAIRS;
 
+// The skeleton pairs of a plan: a mark for each, (a, b) in row b, and the index.
+#[derive(Drop)]
+pub struct Skeleton {
+    pub skel: [u32; ROWS],
+    pub index: [u16; INDEX],
+}
+
+impl Skeleton {
+    // No pair is marked or listed.
+    pub fn blank() -> Skeleton
+        ensures { Blank result.skel × Unlisted result.index }
+    {
+        Skeleton {
+            skel: [0u32; ROWS],
+            index: [0u16; INDEX],
+        }
+    }
+}
+
 // Lists pair i, from a to b, as the last of b.
+// Lists by the later event, with the earlier one beside; those of `sorting` are by the earlier event and count.
 fn list_pair(index: &mut [u16], a: Event, b: Event, i: usize)
     requires { (a.0 < most_events) × (b.0 < most_events) × (i < most_pairs) × (index_size ≤ length index.old) }
     ensures { PairListed index.old index.new a.0 b.0 i }
@@ -32,35 +53,22 @@ fn list_pair(index: &mut [u16], a: Event, b: Event, i: usize)
     index[to] = i as u16 + 1;
 }
 
-// Marks each skeleton pair (a, b) in row b of `skel`, and lists it in the index.
-pub fn index_pairs(
-    s: &[u8],
-    l: Layout,
-    succ: &[u32; ROWS],
-    pred: &[u32; ROWS],
-    skel: &mut [u32; ROWS],
-    index: &mut [u16; INDEX],
-)
-    requires faultless { Faultless s.now × LayoutOf s.now l }
-    requires order_rows { OrderRows (plan_of s.now) succ.now pred.now }
-    requires blank { Blank skel.old × Unlisted index.old }
-    ensures { Linked (plan_of s.now) (pairs_of s.now) skel.new index.new }
+// Marks each skeleton pair (a, b) of the sheet in row b, and lists it in the index.
+#[tactic(auto, using(crate::proofs::Links::within))]
+pub fn index_pairs(sheet: &Reader, order: &Order, skeleton: &mut Skeleton)
+    requires faultless { Faultless sheet.now }
+    requires order_rows { OrderRows (plan_of sheet.now) order.now.succ order.now.pred }
+    requires blank { Blank skeleton.old.skel × Unlisted skeleton.old.index }
+    ensures { Linked (plan_of sheet.now) (pairs_of sheet.now) skeleton.new.skel skeleton.new.index }
 {
-    for i in 0..l.pairs {
-        let a = earlier(s, l, i);
-        let b = later(s, l, i);
-        if is_skeleton(succ, pred, a, b) {
-            mark(skel, b.0, a.0);
-            list_pair(index, a, b, i);
+    for i in 0..sheet.pairs() {
+        let a = sheet.earlier(i);
+        let b = sheet.later(i);
+        if is_skeleton(&order.succ, &order.pred, a, b) {
+            mark(&mut skeleton.skel, b.0, a.0);
+            list_pair(&mut skeleton.index, a, b, i);
         }
     }
-}
-
-// A parameter is known to fit its type, where an element of a row is not.
-fn wide(x: u16) -> usize
-    ensures { result ≡ x }
-{
-    x as usize
 }
 
 // An entry of the index.
@@ -68,16 +76,18 @@ fn entry(index: &[u16; INDEX], at: usize) -> usize
     requires { at < index_size }
     ensures { result ≡ get_or index.now at 0 }
 {
-    wide(index[at])
+    usize::from(index[at])
 }
 
 // The number of the skeleton pair from a to b, found in the list of b.
+#[tactic(auto, using(crate::proofs::Seeking::seek_few))]
 pub fn pair_number(index: &[u16; INDEX], a: Event, b: Event) -> usize
     requires a_lt_most_events { (a.0 < most_events) × (b.0 < most_events) }
     requires may_find { MayFind index.now a.0 b.0 }
     ensures { FoundAt index.now a.0 b.0 result }
 {
     let mut i = entry(index, b.0) - 1;
+    // A list is walked by its links: an iterator would be no plainer.
     while entry(index, EVENTS + PAIRS + i) != a.0 {
         i = entry(index, EVENTS + i) - 1;
     }

@@ -6,9 +6,9 @@ use Rattle.finite.specs.Bounded.{decide}
 use Rattle.finite.specs.Count.{count_room}
 use Rattle.finite.specs.Queue.{queued_le}
 use Rattle.plan.specs.Net.{Plan}
-use Rattle.sorting.specs.Rows.{plan_by, PlanInRows}
 use Rattle.sorting.specs.Sorted.{ready, Round, SortedTo}
 use Rattle.sorting.specs.Arranged.{Arranged, Sorted}
+use Rattle.sorting.specs.declared.Sorting.{Sorting}
 
 -- Where no event is left out, they are so arranged.
 all_arranged : (P : Plan) (left queue : List ℕ) (n : ℕ) → Round P left queue n n → n ≡ P.events → Arranged P queue
@@ -29,11 +29,9 @@ all_arranged P left queue n round all =
         (omega (arith, all, round.queued.counted, count_room P.events v (ready P.events left) l (T_not (ready P.events left v) out))))
         (decide (ready P.events left v))
 
-pub all_sorted : {events pairs n : ℕ} {from to first next queue : List ℕ} → PlanInRows events pairs from to → SortedTo (plan_by events pairs from to) first next queue n
-    → events ≤ n → Sorted events pairs from to first next queue
-all_sorted within sorted most =
+pub all_sorted : {P : Plan} {s : Sorting} {n : ℕ} → SortedTo P s n → P.events ≤ n → Sorted P s
+all_sorted sorted most =
     record {
-      within = within;
       lists = sorted.lists;
       arranged = all_arranged _ sorted.left _ _ sorted.round (omega (arith, most, queued_le sorted.round.queued));
     }

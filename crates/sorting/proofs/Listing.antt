@@ -19,6 +19,8 @@ use Rattle.ids.specs.Limits.{most_events}
 use Rattle.plan.specs.Net.{Plan}
 use Rattle.sorting.specs.Steps.{PairListed}
 use Rattle.sorting.specs.Waiting.{starts_at, waits_for, Listed}
+use Rattle.sorting.specs.Sorted.{NoLists}
+use Rattle.sorting.specs.declared.PairLists.{PairLists}
 
 -- one more at b, and all else as it was
 raised : {old new : List ℕ} {b : ℕ} → Stored old new b (get_or old b 0 + 1) → (v : ℕ) → get_or new v 0 ≡ get_or old v 0 + on (eqb b v) 1
@@ -29,25 +31,25 @@ raised {old} {new} {b} put v =
     (decide (eqb b v))
 
 module _ (P : Plan) where
-  pub listed_start : (a b c : ℕ) → Listed P (replicate a 0) (replicate b 0) (replicate c 0) 0
-  listed_start a b c =
+  pub listed_start : (l : PairLists) (n : ℕ) → NoLists l → Listed P l (replicate n 0) 0
+  listed_start l n none =
       record {
-        lists = record { heads = λ u l. zeros a u ∙ sym (last_start (starts_at P u)); links = λ i l. absurd (omega arith) };
-        waits = record { counts = λ v l. zeros c v ∙ sym (count_start (waits_for P empty v)) };
+        lists = record { heads = λ u h. ap (λ (row : List ℕ). get_or row u 0) none.0 ∙ zeros most_events u ∙ sym (last_start (starts_at P u)); links = λ i l. absurd (omega arith) };
+        waits = record { counts = λ v l. zeros n v ∙ sym (count_start (waits_for P empty v)) };
       }
 
-  module _ (first next left : List ℕ) (m : ℕ) (so_far : Listed P first next left m) where
-    module _ (a b : ℕ) (ea : a ≡ P.earlier m) (eb : b ≡ P.later m) (event : a < most_events) {first' next' left' : List ℕ}
-        (put : PairListed first next left first' next' left' m a b) where
+  module _ (lists : PairLists) (left : List ℕ) (m : ℕ) (so_far : Listed P lists left m) where
+    module _ (a b : ℕ) (ea : a ≡ P.earlier m) (eb : b ≡ P.later m) (event : a < most_events) {lists' : PairLists} {left' : List ℕ}
+        (put : PairListed lists left lists' left' m a b) where
       starts : T (starts_at P a m)
       starts = yes_eqb (sym ea)
 
-      heads : (u : ℕ) → u < most_events → get_or first' u 0 ≡ last (m + 1) (starts_at P u)
+      heads : (u : ℕ) → u < most_events → get_or lists'.first u 0 ≡ last (m + 1) (starts_at P u)
       heads u l =
           ⊎_elim
           (λ t.
           subst
-          (λ (w : ℕ). get_or first' w 0 ≡ last (m + 1) (starts_at P w))
+          (λ (w : ℕ). get_or lists'.first w 0 ≡ last (m + 1) (starts_at P w))
           (eqb→eq a u t)
           (put.heads.here ∙ sym (last_here (starts_at P a) m starts)))
           (λ t.
@@ -56,7 +58,7 @@ module _ (P : Plan) where
           (last_still (starts_at P u) m (λ s. eqb_no t (ea ∙ eqb→eq (P.earlier m) u s))))
           (decide (eqb a u))
 
-      links : (i : ℕ) → i < m + 1 → get_or next' i 0 ≡ last i (starts_at P (P.earlier i))
+      links : (i : ℕ) → i < m + 1 → get_or lists'.next i 0 ≡ last i (starts_at P (P.earlier i))
       links i l =
           below_next
           m
@@ -65,7 +67,7 @@ module _ (P : Plan) where
           (λ low. stored_below put.links i low ∙ so_far.lists.links i low)
           (λ e.
           subst
-          (λ (j : ℕ). get_or next' j 0 ≡ last j (starts_at P (P.earlier j)))
+          (λ (j : ℕ). get_or lists'.next j 0 ≡ last j (starts_at P (P.earlier j)))
           (sym e)
           (put.links.here ∙ so_far.lists.heads a event ∙ ap (λ (u : ℕ). last m (starts_at P u)) ea))
 
@@ -87,5 +89,5 @@ module _ (P : Plan) where
               (λ t. yes_and (eqb (P.later m) v) (not false) (yes_eqb (sym eb ∙ eqb→eq b v t)) tt)
               (λ t. yes_eqb (eb ∙ eqb→eq (P.later m) v (and_yes (eqb (P.later m) v) (not false) t).0))
 
-      pub listed_more : Listed P first' next' left' (m + 1)
+      pub listed_more : Listed P lists' left' (m + 1)
       listed_more = record { lists = record { heads = heads; links = links }; waits = record { counts = counts } }

@@ -14,13 +14,14 @@ use Rattle.plan.specs.Order.{Named}
 use Rattle.sorting.specs.Sorted.{Round}
 use Rattle.sorting.specs.Steps.{Lowered}
 use Rattle.sorting.specs.Waiting.{starts_at, waits_for, Lists, Listed}
+use Rattle.sorting.specs.declared.PairLists.{PairLists}
 use Rattle.sorting.proofs.Seeding.{is_ready}
 use Rattle.sorting.proofs.Walks.{Walk, walk_start, walk_end, walk_more, step_pair, step_some, step_room}
 
 module _ (P : Plan) where
   -- no event waits for more pairs than there are
-  pub waits_few : (first next left : List ℕ) (m v : ℕ) → Listed P first next left m → v < most_events → get_or left v 0 ≤ m
-  waits_few first next left m v listed l = omega (arith, listed.waits.counts v l, count_le m (waits_for P empty v))
+  pub waits_few : {lists : PairLists} {left : List ℕ} {m : ℕ} → Listed P lists left m → (v : ℕ) → v < most_events → get_or left v 0 ≤ m
+  waits_few {m = m} listed v l = omega (arith, listed.waits.counts v l, count_le m (waits_for P empty v))
 
   -- an event of the queue
   pub queued_event : (left queue : List ℕ) (h n : ℕ) → Round P left queue h n → h < n → get_or queue h 0 < P.events
@@ -30,17 +31,14 @@ module _ (P : Plan) where
   queued_few left queue h n round = queued_le round.queued
 
   -- Along the list of the event at h.
-  module _ (first next old : List ℕ) (h : ℕ) (lists : Lists P P.pairs first next) (few : P.events ≤ most_events) (named : Named P) where
+  module _ (l : PairLists) (old : List ℕ) (h : ℕ) (lists : Lists P P.pairs l) (few : P.events ≤ most_events) (named : Named P) where
     abbrev Walking : ℕ → List ℕ → List ℕ → ℕ → Type 0
     Walking at left queue n = Walk P old h (get_or old h 0) at left queue n
 
-    pub head_few : (u : ℕ) → u < most_events → get_or first u 0 ≤ P.pairs
-    head_few u l = omega (arith, lists.heads u l, last_le (starts_at P u) P.pairs)
-
-    pub walking_start : (left : List ℕ) (n : ℕ) → Round P left old h n → h < n → Walking (get_or first (get_or old h 0) 0) left old n
+    pub walking_start : (left : List ℕ) (n : ℕ) → Round P left old h n → h < n → Walking (get_or l.first (get_or old h 0) 0) left old n
     walking_start left n round room =
         let event = queued_event left old h n round room in
-        walk_start P old h (get_or old h 0) left n (get_or first (get_or old h 0) 0) round room (lists.heads (get_or old h 0) (omega (arith, event, few)))
+        walk_start P old h (get_or old h 0) left n (get_or l.first (get_or old h 0) 0) round room (lists.heads (get_or old h 0) (omega (arith, event, few)))
 
     pub walking_end : (left queue : List ℕ) (n at : ℕ) → Walking at left queue n → at ≡ 0 → Round P left queue (h + 1) n
     walking_end left queue n at walk none = walk_end P old h (get_or old h 0) refl left queue n at walk none
@@ -55,11 +53,11 @@ module _ (P : Plan) where
       pub walking_pair : at - 1 < P.pairs
       walking_pair = pair.0
 
-      link : get_or next (at - 1) 0 ≡ last (at - 1) (starts_at P (get_or old h 0))
+      link : get_or l.next (at - 1) 0 ≡ last (at - 1) (starts_at P (get_or old h 0))
       link = lists.links (at - 1) pair.0 ∙ ap (λ (u : ℕ). last (at - 1) (starts_at P u)) pair.1
 
       -- the next pair of the list is an earlier one
-      pub walking_less : get_or next (at - 1) 0 < at
+      pub walking_less : get_or l.next (at - 1) 0 < at
       walking_less = omega (arith, some, link, last_le (starts_at P (get_or old h 0)) (at - 1))
 
       event : P.later (at - 1) < P.events
@@ -72,6 +70,6 @@ module _ (P : Plan) where
         step_room P old h (get_or old h 0) refl left queue n at (at - 1) walk at_k (P.later (at - 1)) refl event few,
       )
 
-      pub walking_more : {left' queue' : List ℕ} {n' : ℕ} → Lowered left queue left' queue' (P.later (at - 1)) n n' → Walking (get_or next (at - 1) 0) left' queue' n'
+      pub walking_more : {left' queue' : List ℕ} {n' : ℕ} → Lowered left queue left' queue' (P.later (at - 1)) n n' → Walking (get_or l.next (at - 1) 0) left' queue' n'
       walking_more low =
-          walk_more P old h (get_or old h 0) refl left queue n at (at - 1) walk at_k (P.later (at - 1)) refl event few low (get_or next (at - 1) 0) link
+          walk_more P old h (get_or old h 0) refl left queue n at (at - 1) walk at_k (P.later (at - 1)) refl event few low (get_or l.next (at - 1) 0) link

@@ -1,9 +1,9 @@
--- All events in a queue, in an order in which what is before comes first; the rows by which pairs are gone over in that order.
+-- All events in a queue, in an order in which what is before comes first; the lists by which pairs are gone over in that order.
 use Rattle.std.specs.Prelude.{ℕ, ◌<◌, List, ◌≡◌, get_or}
 use Rattle.plan.specs.Net.{Plan}
-use Rattle.sorting.specs.Rows.{plan_by, PlanInRows}
 use Rattle.sorting.specs.Sorted.{Ordered}
 use Rattle.sorting.specs.Waiting.{Lists}
+use Rattle.sorting.specs.declared.Sorting.{Sorting}
 
 -- Each event has one place in the queue, after those that have a pair to it.
 pub record Arranged (P : Plan) (queue : List ℕ) : Type 0 where
@@ -12,8 +12,7 @@ pub record Arranged (P : Plan) (queue : List ℕ) : Type 0 where
   pub once : (i k : ℕ) → i < k → k < P.events → ¬ (get_or queue i 0 ≡ get_or queue k 0)
   pub ordered : Ordered P queue P.events
 
--- The plan in rows, its pairs in lists, and its events in such a queue.
-pub record Sorted (events pairs : ℕ) (from to first next queue : List ℕ) : Type 0 where
-  pub within : PlanInRows events pairs from to
-  pub lists : Lists (plan_by events pairs from to) pairs first next
-  pub arranged : Arranged (plan_by events pairs from to) queue
+-- The plan's pairs are in lists, and its events in such a queue.
+pub record Sorted (P : Plan) (s : Sorting) : Type 0 where
+  pub lists : Lists P P.pairs s.lists
+  pub arranged : Arranged P s.queue

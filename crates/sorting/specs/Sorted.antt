@@ -6,6 +6,8 @@ use Rattle.finite.specs.Subset.{Set}
 use Rattle.ids.specs.Limits.{most_events, most_pairs}
 use Rattle.plan.specs.Net.{Plan}
 use Rattle.sorting.specs.Waiting.{Lists, Waits}
+use Rattle.sorting.specs.declared.PairLists.{PairLists}
+use Rattle.sorting.specs.declared.Sorting.{Sorting}
 
 -- the events below n that wait for nothing
 abbrev pub ready : ℕ → List ℕ → Set
@@ -29,11 +31,11 @@ module _ (P : Plan) where
     pub ordered : Ordered queue n
 
   -- The pairs are listed, and the pairs of all n events of the queue are gone over.
-  pub record SortedTo (first next queue : List ℕ) (n : ℕ) : Type 0 where
-    pub lists : Lists P P.pairs first next
+  pub record SortedTo (s : Sorting) (n : ℕ) : Type 0 where
+    pub lists : Lists P P.pairs s.lists
     pub left : List ℕ
-    pub round : Round left queue n n
+    pub round : Round left s.queue n n
 
--- rows that list nothing
-abbrev pub NoLists : List ℕ → List ℕ → Type 0
-NoLists first next = (first ≡ replicate most_events 0) × (next ≡ replicate most_pairs 0)
+-- no pair is listed
+abbrev pub NoLists : PairLists → Type 0
+NoLists l = (l.first ≡ replicate most_events 0) × (l.next ≡ replicate most_pairs 0)

@@ -5,6 +5,7 @@ use Rattle.finite.specs.Last.{last}
 use Rattle.finite.specs.Subset.{Set, empty}
 use Rattle.ids.specs.Limits.{most_events}
 use Rattle.plan.specs.Net.{Plan}
+use Rattle.sorting.specs.declared.PairLists.{PairLists}
 
 module _ (P : Plan) where
   -- pair i starts at u
@@ -17,15 +18,15 @@ module _ (P : Plan) where
 
   -- The first m pairs, listed: an event has the number after that of its last pair, a pair that after its event's last pair before it, and 0 says
   -- that there is none.
-  pub record Lists (m : ℕ) (first next : List ℕ) : Type 0 where
-    pub heads : (u : ℕ) → u < most_events → get_or first u 0 ≡ last m (starts_at u)
-    pub links : (i : ℕ) → i < m → get_or next i 0 ≡ last i (starts_at (P.earlier i))
+  pub record Lists (m : ℕ) (l : PairLists) : Type 0 where
+    pub heads : (u : ℕ) → u < most_events → get_or l.first u 0 ≡ last m (starts_at u)
+    pub links : (i : ℕ) → i < m → get_or l.next i 0 ≡ last i (starts_at (P.earlier i))
 
   -- An event has the number of those of the first m pairs that it waits for.
   pub record Waits (gone : Set) (m : ℕ) (left : List ℕ) : Type 0 where
     pub counts : (v : ℕ) → v < most_events → get_or left v 0 ≡ count m (waits_for gone v)
 
   -- The first m pairs are listed, and counted at the events where they end.
-  pub record Listed (first next left : List ℕ) (m : ℕ) : Type 0 where
-    pub lists : Lists m first next
+  pub record Listed (l : PairLists) (left : List ℕ) (m : ℕ) : Type 0 where
+    pub lists : Lists m l
     pub waits : Waits empty m left

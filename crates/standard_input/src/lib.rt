@@ -1,34 +1,29 @@
 // A sheet read from standard input, for the programs.
 #![tactic(auto)]
 
+ghost use Rattle.std.specs.Prelude.{◌≤◌, length, IfOk};
+
 use std::io;
 use std::io::{Eprint, ErrorKind, Read};
 
-#[derive(Drop)]
-pub enum Input {
-    Bytes(usize),
-    Failed(io::Error),
-}
-
 // Reads until the row is full or the input ends. A read that a signal interrupts is tried again; turns are counted, so that the loop is
-// proved to end.
-pub fn read_sheet<R: Read>(input: &mut R, row: &mut [u8]) -> Input {
+// proved to end. std's `read_exact` doesn't say how much a short input has, and its `read_to_end` needs the heap.
+pub fn read_sheet<R: Read>(input: &mut R, row: &mut [u8]) -> io::Result<usize>
+    ensures { IfOk result (λ n. n ≤ length row.old) }
+{
     let mut done = 0;
     for _ in 0..100000 {
         if done == row.len() {
-            return Input::Bytes(done);
+            return Ok(done);
         }
         match input.read(&mut row[done..]) {
-            Ok(0) => return Input::Bytes(done),
+            Ok(0) => return Ok(done),
             Ok(got) => done += got,
-            Err(error) => {
-                if error.kind() != ErrorKind::Interrupted {
-                    return Input::Failed(error);
-                }
-            }
+            Err(error) if error.kind() == ErrorKind::Interrupted => {}
+            Err(error) => return Err(error),
         }
     }
-    Input::Failed(io::Error::from(ErrorKind::Interrupted))
+    Err(io::Error::from(ErrorKind::Interrupted))
 }
 
 // The system's words for an error, without its number.

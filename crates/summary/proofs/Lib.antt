@@ -1,2 +1,3 @@
 pub mod Verdicts
 pub mod Laws
+pub mod Counts

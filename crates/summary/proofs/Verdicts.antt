@@ -1,5 +1,5 @@
--- The summary of the first places, one place after another.
-use Prim.Native.Nat.{ℕ, ◌+◌, ◌≤◌, ◌<◌}
+-- The verdict on the first places, one place after another.
+use Prim.Native.Nat.{ℕ, ◌+◌, ◌<◌}
 use native.Mathlib.Numerals.{add-one}
 use native.Mathlib.Omega.{arith}
 use mathlib.Core.Bool.{Bool, true, false}
@@ -8,33 +8,12 @@ use mathlib.Core.Path.{◌≡◌, refl, sym, ap, ap₂, ◌∙◌}
 use borrow.Author.Tests.{lt-ltb, le-ltb}
 use lib.Dec.{ltb}
 use Rattle.finite.specs.First.{first, or_here}
-use Rattle.finite.specs.Sum.{on, sum_start, sum_more}
 use Rattle.ids.specs.declared.Place.{Place}
 use Rattle.summary.specs.declared.Verdict.{Verdict}
 use Rattle.summary.specs.declared.Verdict.TheVariants.{Runs, Short}
-use Rattle.summary.specs.Summary.{total_missing, short_places, first_short, short_number, short_count, verdict_number, verdict_count, VerdictOf, NextVerdict}
+use Rattle.summary.specs.Summary.{first_short, short_number, short_count, verdict_number, verdict_count, VerdictOf, NextVerdict}
 
 module _ (missing : ℕ → ℕ) where
-  pub total_none : total_missing missing 0 ≡ 0
-  unfolding total_missing
-  total_none = sum_start _
-
-  pub total_more : (p : ℕ) → total_missing missing (p + 1) ≡ total_missing missing p + missing p
-  unfolding total_missing
-  total_more p = sum_more p _
-
-  pub short_none : short_places missing 0 ≡ 0
-  unfolding short_places
-  short_none = sum_start _
-
-  pub short_more : (p : ℕ) → 0 < missing p → short_places missing (p + 1) ≡ short_places missing p + 1
-  unfolding short_places
-  short_more p l = sum_more p _ ∙ ap (λ (b : Bool). short_places missing p + on b 1) (lt-ltb 0 (missing p) l)
-
-  pub short_same : (p : ℕ) → missing p ≤ 0 → short_places missing (p + 1) ≡ short_places missing p
-  unfolding short_places
-  short_same p l = omega (arith, sum_more p (λ q. on (ltb 0 (missing q)) 1), ap (λ (b : Bool). on b 1) (le-ltb 0 (missing p) l))
-
   -- one place more: what the first short place is then
   first_more : (p : ℕ) → first_short missing (p + 1) ≡ or_here (first_short missing p) (ltb 0 (missing p)) p
   unfolding first
@@ -43,12 +22,8 @@ module _ (missing : ℕ → ℕ) where
   after : (p : ℕ) (o : Option ℕ) (b : Bool) → first_short missing p ≡ o → ltb 0 (missing p) ≡ b → first_short missing (p + 1) ≡ or_here o b p
   after p o b found tested = first_more p ∙ ap₂ (λ (x : Option ℕ) (c : Bool). or_here x c p) found tested
 
-  told : (n : ℕ) (o : Option ℕ) (v : Verdict) → first_short missing n ≡ o → verdict_number v ≡ short_number o → verdict_count v ≡ short_count missing o → VerdictOf missing n v
+  pub told : (n : ℕ) (o : Option ℕ) (v : Verdict) → first_short missing n ≡ o → verdict_number v ≡ short_number o → verdict_count v ≡ short_count missing o → VerdictOf missing n v
   told n o v found number count = (number ∙ sym (ap short_number found), count ∙ sym (ap (short_count missing) found))
-
-  pub none_yet : (n : ℕ) → n ≡ 0 → VerdictOf missing n Runs
-  unfolding first
-  none_yet n e = rw e (refl, refl)
 
   module _ (p m : ℕ) (is : missing p ≡ m) where
     -- the first short place stays, whatever comes after it

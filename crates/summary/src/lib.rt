@@ -1,4 +1,5 @@
 // What the counts of all places come to: the total missing, the number of short places, and the verdict.
+// Numbers are cast to fewer bits, which loses nothing, as the check proves: `TryFrom` would need an answer for what can't come.
 #![tactic(auto)]
 
 ghost use Rattle.std.specs.Prelude.{◌+◌, ◌≤◌, ◌<◌, ◌≡◌, length};
@@ -23,52 +24,27 @@ pub struct Totals {
     pub verdict: Verdict,
 }
 
-fn total_missing(row: &[u32], n: usize) -> u32
-    requires { MissingCounts row.now n × (n ≤ length row.now) }
-    ensures { result ≡ total_missing (count_at row.now) n }
+fn total_missing(counts: &[u32]) -> u32
+    requires { MissingCounts counts.now (length counts.now) }
+    ensures { result ≡ total_missing (count_at counts.now) (length counts.now) }
 {
-    let mut total: u32 = 0;
-    for p in 0..n {
-        total += row[p];
-    }
-    total
+    counts.iter().sum()
 }
 
-fn short_places(row: &[u32], n: usize) -> u32
-    requires { MissingCounts row.now n × (n ≤ length row.now) }
-    ensures { result ≡ short_places (count_at row.now) n }
+fn short_places(counts: &[u32]) -> u32
+    requires { MissingCounts counts.now (length counts.now) }
+    ensures { result ≡ short_places (count_at counts.now) (length counts.now) }
 {
-    let mut short: u32 = 0;
-    for p in 0..n {
-        if row[p] > 0 {
-            short += 1;
-        }
-    }
-    short
+    counts.iter().filter(|m| **m > 0).count() as u32
 }
 
-// The verdict on the places below p and on p itself, where m are missing: the first short place stays.
-fn keep_first(v: Verdict, p: Place, m: u32) -> Verdict
-    ensures { NextVerdict v p.0 m result }
+fn verdict_of(counts: &[u32]) -> Verdict
+    ensures { VerdictOf (count_at counts.now) (length counts.now) result }
 {
-    if m == 0 {
-        return v;
+    match counts.iter().position(|m| *m > 0) {
+        Some(p) => Verdict::Short(Place(p), counts[p]),
+        None => Verdict::Runs,
     }
-    match v {
-        Verdict::Runs => Verdict::Short(p, m),
-        Verdict::Short(q, k) => Verdict::Short(q, k),
-    }
-}
-
-fn verdict_of(row: &[u32], n: usize) -> Verdict
-    requires { n ≤ length row.now }
-    ensures { VerdictOf (count_at row.now) n result }
-{
-    let mut v = Verdict::Runs;
-    for p in 0..n {
-        v = keep_first(v, Place(p), row[p]);
-    }
-    v
 }
 
 // What the counts of the first n places come to.
@@ -76,9 +52,10 @@ pub fn sum_up(row: &[u32], n: usize) -> Totals
     requires { MissingCounts row.now n × (n ≤ length row.now) }
     ensures { values_in result ≡ values_of (count_at row.now) n }
 {
-    let total = total_missing(row, n);
-    let short = short_places(row, n);
-    let verdict = verdict_of(row, n);
+    let counts = &row[..n];
+    let total = total_missing(counts);
+    let short = short_places(counts);
+    let verdict = verdict_of(counts);
     Totals {
         total,
         short,
@@ -86,6 +63,7 @@ pub fn sum_up(row: &[u32], n: usize) -> Totals
     }
 }
 
+// This and `first_place` stay functions and no methods: docs/ name them.
 // 0 for a plan that runs, or 1,000 plus the number of the first short place.
 pub fn verdict_number(v: Verdict) -> u32
     requires { verdict_number v < 1000 + most_places }

@@ -1,9 +1,9 @@
 -- The digits of a number: the last one apart from the others, and how many there are.
-use Rattle.std.specs.Prelude.{ℕ, zero, suc, ◌+◌, ◌/◌, ◌%◌, ◌^◌, ◌≤◌, ◌<◌, Bool, true, false, List, ◌++◌, ◌≡◌, refl, ltb, length, set}
+use Rattle.std.specs.Prelude.{ℕ, zero, suc, ◌+◌, ◌/◌, ◌%◌, ◌^◌, ◌≤◌, ◌<◌, Bool, true, false, List, ◌++◌, ◌≡◌, refl, ltb, length}
 use Rattle.std.proofs.Common.{arith, ⊎_elim, sym, ap, subst, ◌∙◌, lt-ltb, le-ltb, ltb→lt, nltb→le, length-append}
 use Rattle.finite.specs.Bounded.{decide}
 use Rattle.text.specs.Words.{digit, digits, decimal}
-use Rattle.text.specs.Put.{Put, put_byte, put_then}
+use Rattle.text.specs.Put.{Put, put_then}
 
 small : (bound n : ℕ) → n < 10 → digits bound n ≡ digit n
 unfolding digits
@@ -66,7 +66,6 @@ few (suc k) n l =
 pub ten_digits : (n : ℕ) → n < 2 ^ 32 → length (decimal n) ≤ 10
 ten_digits n l = few 9 n (omega arith)
 
--- A number put digit by digit.
 pub room : (n : ℕ) → 1 ≤ length (decimal n)
 room n =
     ⊎_elim
@@ -74,10 +73,10 @@ room n =
     (λ t. omega (arith, last_digit n (nltb→le n 10 t)))
     (decide (ltb n 10))
 
-pub digit_put : (row : List ℕ) (at n b : ℕ) → n < 10 → b ≡ 48 + n → at < length row → Put row (set row at b) at (decimal n) (at + 1)
-digit_put row at n b low is l = rw (decimal_small n low, ← is) (put_byte row at b l)
+-- the last digit put after the others, or alone
+pub last_put : {old mid new : List ℕ} {at end last : ℕ} (n : ℕ) → 10 ≤ n → Put old mid at (decimal (n / 10)) end → Put mid new end (digit (n % 10)) last
+    → Put old new at (decimal n) last
+last_put n high first second = rw (decimal_large n high) (put_then first second)
 
-pub last_put : (old mid : List ℕ) (at n end b : ℕ) → 10 ≤ n → b ≡ 48 + n % 10 → end < length mid → Put old mid at (decimal (n / 10)) end
-    → Put old (set mid end b) at (decimal n) (end + 1)
-last_put old mid at n end b high is l h =
-    rw (decimal_large n high, ← is) (put_then h (put_byte mid end b l))
+pub only_put : {old new : List ℕ} {at end : ℕ} (n : ℕ) → n < 10 → Put old new at (digit (n % 10)) end → Put old new at (decimal n) end
+only_put n low put = let e : n % 10 ≡ n = omega arith in rw (decimal_small n low) (rw e at put)

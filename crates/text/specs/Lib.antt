@@ -2,3 +2,4 @@ pub mod Words
 pub mod Put
 pub mod Putting
 pub mod Signed
+pub mod Output

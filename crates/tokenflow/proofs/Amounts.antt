@@ -10,10 +10,9 @@ use lib.ListN.{length, get_or, set, length-set}
 use lib.Seq.{get_or-set_same, get_or-set_other}
 use mir.Facts.{eqb_no, and_yes, yes_and, or_yes}
 use Rattle.finite.specs.Bounded.{decide, same, yes_or_left, yes_or_right}
-use Rattle.finite.specs.Row.{raised_at}
 use Rattle.finite.specs.Sum.{on, on_yes, on_no, on_zero}
 use Rattle.marks.specs.Marks.{marked, MarkAdded, MarkRemoved}
-use Rattle.tokenflow.specs.Rows.{fed_by, Exact, Raised, Lowered}
+use Rattle.tokenflow.specs.Rows.{fed_by, Exact, Raised}
 
 -- the number counts where the mark is set, and only there
 pub fed_marked : (amount fed : List ℕ) (u w : ℕ) → T (marked fed u w) → fed_by amount fed u w ≡ get_or amount (u * 256 + w) 0
@@ -176,18 +175,3 @@ module _ (amount fed : List ℕ) (u w k : ℕ) (hu : u < 256) (hw : w < 256) (ro
         let r : Raised amount fed' amount fed u w k =
         raised _ _ _ _ _ _ _ hw (added_back fed u w m fed' gone) refl (λ i ne. refl) (omega (arith, fed_unmarked amount fed' u w no)) in
         (r, lowered_exact hu hw r (λ t. absurd (no t)))
-
--- a row with x at i, where x and k make up what stood there
-pub lowered : (row : List ℕ) (i k x : ℕ) → i < length row → x + k ≡ get_or row i 0 → Lowered row (set row i x) i k
-lowered row i k x l e =
-    record {
-      less = λ a.
-          ⊎_elim
-          (λ t. subst (λ (b : ℕ). get_or row b 0 ≡ get_or (set row i x) b 0 + on (eqb i b) k) (eqb→eq i a t) (omega (arith, e, get_or-set_same row i x 0 l, on_yes (eqb i i) k (eqb_refl i))))
-          (λ t. omega (arith, get_or-set_other row i a x 0 (λ h. eqb_no t (sym h)), on_no (eqb i a) k (T_not (eqb i a) t)))
-          (decide (eqb i a));
-    }
-
--- a row with k more at i, seen from that one
-pub raised_back : (row : List ℕ) (i k x : ℕ) → i < length row → x ≡ get_or row i 0 + k → Lowered (set row i x) row i k
-raised_back row i k x l e = record { less = rw e (raised_at row i k l) }

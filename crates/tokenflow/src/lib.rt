@@ -1,14 +1,34 @@
 // The tokenflow at one place, in rows that a caller lends: tokens drawn from a giver for a taker, and given back.
 #![tactic(auto)]
 
-ghost use Rattle.std.specs.Prelude.{◌+◌, ◌*◌, ◌<◌, ◌≤◌, T, length, get_or};
+ghost use Rattle.std.specs.Prelude.{◌+◌, ◌*◌, ◌<◌, ◌≤◌, ◌≡◌, T, length, get_or};
 ghost use Rattle.ids.specs.Limits.{most_events};
 ghost use Rattle.marks.specs.Marks.{marked};
-ghost use Rattle.tokenflow.specs.Rows.{fed_by, rows, Exact, Raised, Lowered, MayDraw, MayGiveBack, Drawn};
+ghost use Rattle.tokenflow.specs.Rows.{fed_by, Exact, Raised, Lowered, MayDraw, MayGiveBack, Drawn};
 
 use ids::{EVENTS, Event, ROWS};
+use std::marker::Model;
 
-// k tokens more from u to w.
+// The rows lent for one place: tokens from each giver to each taker, and marks where some flow, what each giver has free, and what each
+// taker lacks.
+// Contracts speak of the rows that it refers to, so who lends it makes it of rows of its own.
+#[derive(Drop)]
+pub struct Flow<'a> {
+    pub amount: &'a mut [u32],
+    pub fed: &'a mut [u32; ROWS],
+    pub free: &'a mut [u32; EVENTS],
+    pub share: &'a mut [u32; EVENTS],
+}
+
+impl<'a> Model for Flow<'a> {
+    ghost use Rattle.tokenflow.specs.Rows.{Rows, rows};
+
+    ghost Value = { Rows };
+
+    ghost view = { λ f. rows f.amount.now f.fed.now f.free.now f.share.now };
+}
+
+// k tokens more from u to w. This and what follows take the rows that they change, so that their clauses need not say that the others stay.
 fn raise(amount: &mut [u32], fed: &mut [u32; ROWS], u: Event, w: Event, k: u32)
     requires u_lt_most_events { (u.0 < most_events) × (w.0 < most_events) }
     requires w_in_bounds { u.0 * most_events + w.0 < length amount.old }
@@ -41,59 +61,70 @@ fn lower(amount: &mut [u32], fed: &mut [u32; ROWS], u: Event, w: Event, k: u32)
     }
 }
 
-// What a row has for v, k less.
-fn spend(row: &mut [u32], v: Event, k: u32)
-    requires v_in_bounds { v.0 < length row.old }
-    requires k_bound { k ≤ get_or row.old v.0 0 }
-    ensures { Lowered row.old row.new v.0 k }
-{
-    let i = v.0;
-    row[i] -= k;
-}
-
-// What a row has for v, k more.
+// What a row has for v, k more. It stays a function: with `+=` in `give_back` the proof didn't close, as no fact there tells a row's length.
 fn refund(row: &mut [u32], v: Event, k: u32)
     requires v_in_bounds { v.0 < length row.old }
     requires k_bound { get_or row.old v.0 0 + k < 4294967296 }
     ensures { Lowered row.new row.old v.0 k }
 {
-    let i = v.0;
-    row[i] += k;
+    row[v.0] += k;
 }
 
-// Draws k tokens from the giver u for the taker w.
-pub fn draw(
-    amount: &mut [u32],
-    fed: &mut [u32; ROWS],
-    free: &mut [u32; EVENTS],
-    share: &mut [u32; EVENTS],
-    u: Event,
-    w: Event,
-    k: u32,
-)
-    requires { MayDraw (rows amount.old fed.old free.old share.old) u.0 w.0 k }
-    ensures { Drawn (rows amount.old fed.old free.old share.old) (rows amount.new fed.new free.new share.new) u.0 w.0 k }
-{
-    raise(amount, fed, u, w, k);
-    spend(free, u, k);
-    spend(share, w, k);
-}
+impl<'a> Flow<'a> {
+    // What the giver u has free.
+    pub fn free(&self, u: Event) -> u32
+        requires u_lt_most_events { u.0 < most_events }
+        ensures { result ≡ get_or self.now.free u.0 0 }
+    {
+        let row = &*self.free;
+        row[u.0]
+    }
 
-// Gives back k of the tokens that u feeds to w.
-pub fn give_back(
-    amount: &mut [u32],
-    fed: &mut [u32; ROWS],
-    free: &mut [u32; EVENTS],
-    share: &mut [u32; EVENTS],
-    u: Event,
-    w: Event,
-    k: u32,
-)
-    requires { MayGiveBack (rows amount.old fed.old free.old share.old) u.0 w.0 k }
-    ensures drawn { Drawn (rows amount.new fed.new free.new share.new) (rows amount.old fed.old free.old share.old) u.0 w.0 k }
-    ensures exact { Exact amount.old fed.old → Exact amount.new fed.new }
-{
-    lower(amount, fed, u, w, k);
-    refund(free, u, k);
-    refund(share, w, k);
+    // What the taker w lacks.
+    pub fn lacks(&self, w: Event) -> u32
+        requires w_lt_most_events { w.0 < most_events }
+        ensures { result ≡ get_or self.now.share w.0 0 }
+    {
+        let row = &*self.share;
+        row[w.0]
+    }
+
+    // What stands for u and w: the tokens that u feeds to w, where it feeds w.
+    pub fn amount(&self, u: Event, w: Event) -> u32
+        requires w_in_bounds { u.0 * most_events + w.0 < length self.now.amount }
+        requires u_lt_most_events { (u.0 < most_events) × (w.0 < most_events) }
+        ensures { result ≡ get_or self.now.amount (u.0 * most_events + w.0) 0 }
+    {
+        let row = &*self.amount;
+        row[u.0 * EVENTS + w.0]
+    }
+
+    // Whether u feeds w.
+    pub fn feeds(&self, u: Event, w: Event) -> bool
+        requires u_lt_most_events { (u.0 < most_events) × (w.0 < most_events) }
+        ensures { result ≡ marked self.now.fed u.0 w.0 }
+    {
+        marks::is_marked(self.fed, u.0, w.0)
+    }
+
+    // Draws k tokens from the giver u for the taker w.
+    pub fn draw(&mut self, u: Event, w: Event, k: u32)
+        requires { MayDraw self.old u.0 w.0 k }
+        ensures { Drawn self.old self.new u.0 w.0 k }
+    {
+        raise(self.amount, self.fed, u, w, k);
+        self.free[u.0] -= k;
+        self.share[w.0] -= k;
+    }
+
+    // Gives back k of the tokens that u feeds to w.
+    pub fn give_back(&mut self, u: Event, w: Event, k: u32)
+        requires { MayGiveBack self.old u.0 w.0 k }
+        ensures drawn { Drawn self.new self.old u.0 w.0 k }
+        ensures exact { Exact self.old.amount self.old.fed → Exact self.new.amount self.new.fed }
+    {
+        lower(self.amount, self.fed, u, w, k);
+        refund(self.free, u, k);
+        refund(self.share, w, k);
+    }
 }

@@ -14,7 +14,6 @@ use Rattle.sheet.specs.Faults.{over_opening, over_weight_at, over_weight_in, ove
 use Rattle.sheet.specs.Items.{takes_at, gives_at}
 use Rattle.sheet.specs.Table.{transitions_of}
 use Rattle.sheet.specs.Told.{no_fault, tell, or_else, else_last, else_next}
-use Rattle.sheet.specs.declared.Fault.{Fault}
 
 -- one place more
 pub place_more : (s : List ℕ) (t p x y : ℕ) (h : Bool) → h ≡ any p (over_weight_at s t) → x ≡ takes_at s t p → y ≡ gives_at s t p

@@ -1,5 +1,4 @@
 mod Putting
-mod Copying
 pub mod Lengths
 pub mod ReadBack
 pub mod WriteBack

@@ -1,5 +1,5 @@
-// A sheet written into a lent row of bytes, in parts: its table, a part of another sheet, a pair. Each call returns where its bytes end and leaves
-// the rest of the row.
+// A sheet written into a lent row of bytes, in parts: its table, a part of another sheet, a pair, each after what was written before.
+// Numbers are cast to fewer bits, which loses nothing, as the check proves: `TryFrom` would need an answer for what can't come.
 #![tactic(auto)]
 
 ghost use Rattle.std.specs.Prelude.{◌+◌, ◌<◌, ◌≤◌, ◌≡◌, length};
@@ -7,44 +7,32 @@ ghost use Rattle.std.proofs.Math.Seq.{slice};
 ghost use Rattle.finite.specs.Stands.{Bytes};
 ghost use Rattle.ids.specs.Limits.{most_places, most_transitions, most_events, most_pairs};
 ghost use Rattle.layout.specs.Layout.{FourBytes, WithinLimits};
-ghost use Rattle.numbers.specs.Number.{bytes};
 ghost use Rattle.sheet.specs.Table.{table_length};
 ghost use Rattle.text.specs.Put.{Put};
 ghost use Rattle.writer.specs.Written.{layout_for, entry, table, pair_bytes};
 
 use ids::Event;
 use layout::{Layout, TABLE};
-use numbers::byte;
-use text::low;
 
-// A number of 2 bytes.
-fn put16(row: &mut [u8], at: usize, n: u32) -> usize
-    requires at_in_bounds { at + 2 ≤ length row.old }
-    requires n_bound { n < 65536 }
-    ensures { Put row.old row.new at (bytes 2 n) result × (result ≡ at + 2) }
+// Puts a word at a position, and tells where it ends.
+// A row and a position, and no Output of text: in contracts an Output doesn't say that it still holds the row that was lent, and `mend` owes what stands in it.
+fn put_word(row: &mut [u8], at: usize, word: &[u8]) -> usize
+    requires { at + length word.now ≤ length row.old }
+    ensures { Put row.old row.new at word.now result }
 {
-    row[at] = low(n % 256);
-    row[at + 1] = low(n / 256);
-    at + 2
+    let end = at + word.len();
+    row[at..end].copy_from_slice(word);
+    end
 }
 
-// A number of 4 bytes.
-fn put32(row: &mut [u8], at: usize, n: u32) -> usize
-    requires { at + 4 ≤ length row.old }
-    ensures { Put row.old row.new at (bytes 4 n) result × (result ≡ at + 4) }
-{
-    let half = put16(row, at, n % 65536);
-    put16(row, half, n / 65536)
-}
-
-// An entry of the table: where a body starts and how many items it has.
+// An entry of the table: where a body starts and how many items it has, 4 bytes each.
 fn put_entry(row: &mut [u8], at: usize, start: usize, count: usize) -> usize
     requires at_in_bounds { at + 8 ≤ length row.old }
     requires start_bound { (start < 4294967296) × (count < 4294967296) }
     ensures { Put row.old row.new at (entry start count) result × (result ≡ at + 8) }
 {
-    let half = put32(row, at, start as u32);
-    put32(row, half, count as u32)
+    let half = put_word(row, at, &(start as u32).to_le_bytes());
+    put_word(row, half, &(count as u32).to_le_bytes())
 }
 
 // The layout of a sheet that has so many items of each kind: each body starts where the one before ends.
@@ -87,18 +75,15 @@ pub fn put_part(row: &mut [u8], at: usize, s: &[u8], from: usize, to: usize) -> 
     ensures put { Put row.old row.new at (slice from to s.now) result × (result + from ≡ at + to) }
     ensures bytes { Bytes (slice from to s.now) }
 {
-    for i in from..to {
-        row[at + (i - from)] = low(byte(s, i));
-    }
-    at + (to - from)
+    put_word(row, at, &s[from..to])
 }
 
-// A pair: its earlier event and its later one.
+// A pair: its earlier event and its later one, 2 bytes each.
 pub fn put_pair(row: &mut [u8], at: usize, a: Event, b: Event) -> usize
     requires at_in_bounds { at + 4 ≤ length row.old }
     requires a_lt_most_events { (a.0 < most_events) × (b.0 < most_events) }
     ensures { Put row.old row.new at (pair_bytes a.0 b.0) result × (result ≡ at + 4) }
 {
-    let half = put16(row, at, a.0 as u32);
-    put16(row, half, b.0 as u32)
+    let half = put_word(row, at, &(a.0 as u16).to_le_bytes());
+    put_word(row, half, &(b.0 as u16).to_le_bytes())
 }

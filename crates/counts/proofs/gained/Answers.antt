@@ -1,4 +1,4 @@
-use Rattle.std.proofs.Common.{◌-◌, ◌≤◌, arith, rules}
+use Rattle.std.proofs.Common.{◌≤◌, arith, rules}
 use Rattle.counts.specs.Ends.{gained_start, gained_more, gained_all}
 use Rattle.counts.proofs.Weights.{opening_most, named, gives_most}
 use Rattle.counts.proofs.gained.Goals as goal

@@ -1,4 +1,4 @@
-use Rattle.std.proofs.Common.{◌-◌, ◌≤◌, arith, rules}
+use Rattle.std.proofs.Common.{◌≤◌, arith, rules}
 use Rattle.counts.specs.Ends.{lost_start, lost_more, lost_all}
 use Rattle.counts.proofs.Weights.{named, takes_most}
 use Rattle.counts.proofs.lost.Goals as goal

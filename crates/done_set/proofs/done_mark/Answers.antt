@@ -1,13 +1,10 @@
--- `done_mark` meets its contract: no mark where nothing is missing, else the mark of v in the row says whether it is a member.
 use Rattle.std.proofs.Common.{arith}
 use Rattle.done_set.proofs.Marking.{mark_none, mark_some}
 use Rattle.done_set.proofs.done_mark.Goals as goal
+use Rattle.done_set.proofs.done_mark.Goals.{then-m-gt0, else-m-gt0}
 
-pub returns-then-m-eq0 : goal.returns-then-m-eq0
-returns-then-m-eq0 c = mark_none _ _ _ (omega arith)
-
-pub returns-then-is_marked : goal.returns-then-is_marked
-returns-then-is_marked c = mark_some _ _ _ _ c.if-m-eq0.false c.requires c.is_marked.ensures c.if-is_marked.true
-
-pub returns-else-is_marked : goal.returns-else-is_marked
-returns-else-is_marked c = mark_some _ _ _ _ c.if-m-eq0.false c.requires c.is_marked.ensures c.if-is_marked.false
+pub returns : goal.returns
+returns c = elim c.if-m-gt0.branch [
+  | then-m-gt0 w ↦ mark_some _ _ _ w.if-m-gt0.true c.requires w.is_marked.ensures c.from.ensures w.from-is
+  | else-m-gt0 w ↦ mark_none _ _ _ (omega (arith, w.if-m-gt0.false)) c.from.ensures w.from-is
+]

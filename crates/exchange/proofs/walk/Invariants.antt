@@ -1,6 +1,5 @@
 -- Invariant: the steps so far moved tokens, and the giver at hand is ready if the first one was. The place by way of which it was met falls.
 use Rattle.std.proofs.Common.{◌<◌}
-use Rattle.tokenflow.specs.Rows.{rows}
 use Rattle.drawing.specs.Moves.{Moved}
 use Rattle.search.specs.Trail.{◌!◌}
 use Rattle.exchange.specs.Walk.{trail_rows, ReadyOn}
@@ -8,9 +7,8 @@ use Rattle.exchange.proofs.walk.Given as goal
 
 abbrev pub invariant-loop-v : goal.invariant-loop-v
 invariant-loop-v l =
-    (l.giver.0 < l.n) × Moved l.n l.pred (rows l.initial.amount l.initial.fed l.initial.free l.initial.share) (rows l.amount l.fed l.free l.share)
-    × ReadyOn l.n l.pred (trail_rows l.queue l.origin l.via) (rows l.initial.amount l.initial.fed l.initial.free l.initial.share)
-    (rows l.amount l.fed l.free l.share) l.initial.giver.0 l.giver.0
+    (l.giver.0 < l.n) × Moved l.n l.pred l.initial.flow l.flow
+    × ReadyOn l.n l.pred (trail_rows l.trail.queue l.trail.origin l.trail.via) l.initial.flow l.flow l.initial.giver.0 l.giver.0
 
 abbrev pub decreases-loop-v : goal.decreases-loop-v
-decreases-loop-v l = l.via ! l.giver.0
+decreases-loop-v l = l.trail.via ! l.giver.0

@@ -1,56 +1,43 @@
 -- Part after part, in the order of the list: a part that found nothing leaves it to the next, and the first that found something is told.
-use Rattle.std.proofs.Common.{ℕ, List, arith, ◌≡◌, sym, ◌∙◌}
+use Rattle.std.proofs.Common.{ℕ, List, arith, ◌≡◌, refl, sym, ◌∙◌}
+use Rattle.std.proofs.lemmas.Result.{err_from_is_err_and}
+use Rattle.sheet.specs.Answered.{told_some}
 use Rattle.sheet.specs.Chain.{here, later}
 use Rattle.sheet.specs.Faults.{no_event, self_pair, number_faults, order_faults, content_faults, first_fault}
-use Rattle.sheet.specs.Told.{tell, tell_none}
-use Rattle.sheet.specs.declared.Fault.{Fault}
+use Rattle.sheet.specs.Told.{no_fault, tell, tell_none}
 use Rattle.fault.proofs.Chain.{from8, from9, from_5}
 use Rattle.fault.proofs.content_fault.Goals as goal
 
-module _ (s : List ℕ) {number : Fault} (no_number : number ≡ first_fault number_faults s) (clear : number.number ≡ 0) where
+module _ (s : List ℕ) (no_number : no_fault ≡ first_fault number_faults s) where
   -- without 5 to 7, those from 8 on decide
   no_7 : first_fault content_faults s ≡ from8 s
-  no_7 = later _ (from_5 s) no_number clear
+  no_7 = later _ (from_5 s) no_number refl
 
-  module _ {end : Fault} (no_end : end ≡ tell 8 (no_event s)) (clear_end : end.number ≡ 0) where
+  module _ (no_end : no_fault ≡ tell 8 (no_event s)) where
     no_8 : first_fault content_faults s ≡ from9 s
-    no_8 = later _ no_7 no_end clear_end
+    no_8 = later _ no_7 no_end refl
 
-    no_9 : {itself : Fault} → itself ≡ tell 9 (self_pair s) → itself.number ≡ 0 → first_fault content_faults s ≡ first_fault order_faults s
-    no_9 no_self clear_self = later _ no_8 no_self clear_self
+    no_9 : no_fault ≡ tell 9 (self_pair s) → first_fault content_faults s ≡ first_fault order_faults s
+    no_9 no_self = later _ no_8 no_self refl
 
-pub returns-then-number-ne0 : goal.returns-then-number-ne0
-returns-then-number-ne0 c =
-    record {
-      value = here _ (from_5 _) c.number_fault-number.ensures c.if-number-ne0.true;
-      wanted_rows = λ e. absurd (c.if-number-ne0.true e);
-    }
+pub returns-in_err-number_fault-clause-fault : goal.returns-in_err-number_fault-clause-fault
+returns-in_err-number_fault-clause-fault c =
+    let e = err_from_is_err_and c.from_residual.result c.from_residual.ensures.1 in
+    rw (e.1, e.2) (here _ (from_5 _) c.in_err-number_fault.ensures (told_some _))
 
-pub returns-then-end-ne0 : goal.returns-then-end-ne0
-returns-then-end-ne0 c =
-    record {
-      value = here _ (no_7 _ c.number_fault-number.ensures c.if-number-ne0.false) c.no_event-end.ensures c.if-end-ne0.true;
-      wanted_rows = λ e. absurd (c.if-end-ne0.true e);
-    }
+pub returns-in_err-no_event-clause-fault : goal.returns-in_err-no_event-clause-fault
+returns-in_err-no_event-clause-fault c =
+    let e = err_from_is_err_and c.from_residual-in_err-no_event.result c.from_residual-in_err-no_event.ensures.1 in
+    rw (e.1, e.2) (here _ (no_7 _ c.in_ok-number_fault.ensures) c.in_err-no_event.ensures (told_some _))
 
-pub returns-then-itself-ne0 : goal.returns-then-itself-ne0
-returns-then-itself-ne0 c =
-    let so_far = no_8 _ c.number_fault-number.ensures c.if-number-ne0.false c.no_event-end.ensures c.if-end-ne0.false in
-    record {
-      value = here _ so_far c.self_pair-itself.ensures c.if-itself-ne0.true;
-      wanted_rows = λ e. absurd (c.if-itself-ne0.true e);
-    }
+pub returns-in_err-self_pair-clause-fault : goal.returns-in_err-self_pair-clause-fault
+returns-in_err-self_pair-clause-fault c =
+    let e = err_from_is_err_and c.from_residual-in_err-self_pair.result c.from_residual-in_err-self_pair.ensures.1 in
+    rw (e.1, e.2) (here _ (no_8 _ c.in_ok-number_fault.ensures c.in_ok-no_event.ensures) c.in_err-self_pair.ensures (told_some _))
 
-pub order_fault-requires : goal.order_fault-requires
-order_fault-requires c =
-    record {
-      laid_by = c.requires.laid_by;
-      s_value = tell_none 8 _ (omega arith) c.no_event-end.ensures c.if-end-ne0.false;
-      blank = c.requires.blank;
-    }
+pub order_fault-requires-clause-events_named : goal.order_fault-requires-clause-events_named
+order_fault-requires-clause-events_named c = tell_none 8 _ (omega arith) c.in_ok-no_event.ensures refl
 
-pub returns : goal.returns
-returns c =
-    let so_far =
-    no_9 _ c.number_fault-number.ensures c.if-number-ne0.false c.no_event-end.ensures c.if-end-ne0.false c.self_pair-itself.ensures c.if-itself-ne0.false in
-    record { value = c.order_fault.ensures.value ∙ sym so_far; wanted_rows = c.order_fault.ensures.wanted_rows }
+pub returns-clause-fault : goal.returns-clause-fault
+returns-clause-fault c =
+    c.order_fault.ensures.fault ∙ sym (no_9 _ c.in_ok-number_fault.ensures c.in_ok-no_event.ensures c.in_ok-self_pair.ensures)

@@ -1,40 +1,37 @@
--- The faults of the layout decide, or are absent: then the table is there, its layout is the sheet's, and the rest decide.
+-- The faults of the layout decide, or are absent: then the rest decide, and where they are absent too the sheet has no fault.
 use Rattle.std.proofs.Common.{ℕ, List, ◌≡◌, sym, ap, ◌∙◌}
-use Rattle.sheet.specs.Faults.{layout_faults, first_fault}
-use Rattle.sheet.proofs.Faultless.{layout_decides, layout_laid, content_decides}
-use Rattle.sheet.specs.declared.Fault.{Fault}
-use Rattle.layout.specs.Layout.{within}
+use Rattle.std.proofs.lemmas.Result.{err_from_is_err_and}
+use Rattle.sheet.specs.Answered.{told_some}
+use Rattle.sheet.specs.Faultless.{Faultless}
+use Rattle.sheet.specs.Faults.{layout_faults, content_faults, first_fault, fault_of}
+use Rattle.sheet.specs.Told.{Told, no_fault}
+use Rattle.sheet.proofs.Faultless.{layout_decides, content_decides, faultless}
 use Rattle.fault.proofs.examine.Goals as goal
 
--- no fault of the layout was told, so it has none
-absent : (s : List ℕ) {f : Fault} → f ≡ first_fault layout_faults s → f.number ≡ 0 → (first_fault layout_faults s).number ≡ 0
-absent s is none = ap (λ (f : Fault). f.number) (sym is) ∙ none
+-- a sheet whose layout has no fault is read as it is, and the rest decide
+module _ (s r : List ℕ) (no_layout : no_fault ≡ first_fault layout_faults s) (same : r ≡ s) where
+  decides : {t : Told} → t ≡ first_fault content_faults r → t ≡ fault_of s
+  decides is = is ∙ ap (first_fault content_faults) same ∙ sym (content_decides s (ap (λ (t : Told). t.number) (sym no_layout)))
 
-pub returns-then-misplaced-ne0 : goal.returns-then-misplaced-ne0
-returns-then-misplaced-ne0 c =
-    let is = c.layout_fault-misplaced.ensures in
-    record {
-      fault_value = is ∙ sym (layout_decides _ (λ z. c.if-misplaced-ne0.true (ap (λ (f : Fault). f.number) is ∙ z)));
-      within_limits = c.no_layout.ensures;
-      layout_of = λ z. absurd (c.if-misplaced-ne0.true z);
-    }
+  clean : no_fault ≡ first_fault content_faults r → Faultless s
+  clean is = faultless s (ap (λ (t : Told). t.number) (sym (decides is)))
 
-pub layout_of-l-requires : goal.layout_of-l-requires
-layout_of-l-requires c = (layout_laid _ (absent _ c.layout_fault-misplaced.ensures c.if-misplaced-ne0.false)).limited.table
+pub returns-in_err-sheet-clause-fault : goal.returns-in_err-sheet-clause-fault
+returns-in_err-sheet-clause-fault c =
+    let e = err_from_is_err_and c.from_residual.result c.from_residual.ensures.1 in
+    let is = c.in_err-sheet.ensures.fault in
+    rw (e.1, e.2) (is ∙ sym (layout_decides _ (λ z. told_some _ (ap (λ (t : Told). t.number) is ∙ z))))
 
-pub content_fault-requires : goal.content_fault-requires
-content_fault-requires c =
-    record {
-      laid_by = (layout_laid _ (absent _ c.layout_fault-misplaced.ensures c.if-misplaced-ne0.false), c.layout_of-l.ensures.0);
-      blank = c.requires;
-    }
+pub returns-in_err-content_fault-clause-fault : goal.returns-in_err-content_fault-clause-fault
+returns-in_err-content_fault-clause-fault c =
+    let e = err_from_is_err_and c.from_residual-in_err-content_fault.result c.from_residual-in_err-content_fault.ensures.1 in
+    rw (e.1, e.2) (decides _ _ c.in_ok-sheet.ensures.fault c.in_ok-sheet.ensures.laid.0 c.in_err-content_fault.ensures.fault)
 
-pub returns : goal.returns
-returns c =
-    let none = absent _ c.layout_fault-misplaced.ensures c.if-misplaced-ne0.false in
-    let is = c.layout_of-l.ensures.0 in
-    record {
-      fault_value = c.content_fault.ensures.value ∙ sym (content_decides _ none);
-      within_limits = within _ _ (layout_laid _ none).limited is;
-      layout_of = λ z. (is, c.content_fault.ensures.wanted_rows z);
-    }
+pub returns-clause-fault : goal.returns-clause-fault
+returns-clause-fault c = decides _ _ c.in_ok-sheet.ensures.fault c.in_ok-sheet.ensures.laid.0 c.in_ok-content_fault.ensures.fault
+
+pub returns-clause-found : goal.returns-clause-found
+returns-clause-found c =
+    let same = c.in_ok-sheet.ensures.laid.0 in
+    let rows = c.in_ok-content_fault.ensures.rows in
+    (same, clean _ _ c.in_ok-sheet.ensures.fault same c.in_ok-content_fault.ensures.fault, rw (sym same) rows)

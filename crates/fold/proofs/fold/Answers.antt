@@ -1,5 +1,5 @@
 -- The row is cleared, and then every giver has its turn.
-use Rattle.std.proofs.Common.{arith}
+use Rattle.std.proofs.Common.{arith, length, rules}
 use Rattle.fold.proofs.Cleared.{cleared}
 use Rattle.fold.proofs.fold.Goals as goal
 
@@ -8,7 +8,7 @@ fold_givers-requires c =
     let g = c.requires in record {
       n_le_most_events = omega (arith, g.1.events, g.1.way.few);
       may_fold = (g.0, g.1, omega (arith, g.2));
-      zeros = cleared _ _ _ (omega arith) c.put_words.ensures;
+      zeros = cleared (length c.args.row.now) _ (search rules);
     }
 
 pub returns : goal.returns

@@ -6,12 +6,12 @@ use Rattle.fold.proofs.step_back.Goals as goal
 pub returns-then-is_marked : goal.returns-then-is_marked
 returns-then-is_marked c = record { result_lt_most_events = search rules; stepped_back = λ P index way b. step_here way b (sym c.is_marked.ensures ∙ c.if-is_marked.true) }
 
-pub returns-in_default : goal.returns-in_default
-returns-in_default c =
+pub returns-in-None : goal.returns-in-None
+returns-in-None c =
     let unmarked = sym c.is_marked.ensures ∙ c.if-is_marked.false in
-    absurd (step_exists c.requires.may_step.2 c.requires.may_step.3 unmarked c.in_default.ensures)
+    absurd (step_exists c.requires.may_step.2 c.requires.may_step.3 unmarked c.in-None.ensures)
 
-pub returns : goal.returns
-returns c =
-    let both = c.in-At.ensures in
+pub returns-in-Some : goal.returns-in-Some
+returns-in-Some c =
+    let both = c.in-Some.ensures in
     record { result_lt_most_events = both.below; stepped_back = λ P index way b. step_there way b _ both }

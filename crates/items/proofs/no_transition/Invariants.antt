@@ -1,11 +1,9 @@
 -- The invariant: each event so far names a transition.
-use Rattle.std.proofs.Common.{◌≤◌, ◌-◌, false, ◌≡◌}
+use Rattle.std.proofs.Common.{◌≤◌, false, ◌≡◌}
 use Rattle.finite.specs.Bounded.{any}
 use Rattle.sheet.specs.Faults.{no_transition_at}
+use Rattle.sheet.specs.Table.{events_of}
 use Rattle.items.proofs.no_transition.Given as goal
 
 abbrev pub invariant-loop-v : goal.invariant-loop-v
-invariant-loop-v l = (l.v ≤ l.l.events) × (any l.v (no_transition_at l.s) ≡ false)
-
-abbrev pub decreases-loop-v : goal.decreases-loop-v
-decreases-loop-v l = l.l.events - l.v
+invariant-loop-v l = (l.v ≤ events_of l.sheet) × (any l.v (no_transition_at l.sheet) ≡ false)

@@ -1,11 +1,9 @@
 -- The invariant: no weight of the transition so far is above the limit.
-use Rattle.std.proofs.Common.{◌≤◌, ◌-◌, false, ◌≡◌}
+use Rattle.std.proofs.Common.{◌≤◌, false, ◌≡◌}
 use Rattle.finite.specs.Bounded.{any}
 use Rattle.sheet.specs.Faults.{over_weight_at}
+use Rattle.sheet.specs.Table.{places_of}
 use Rattle.items.proofs.over_weight_in.Given as goal
 
 abbrev pub invariant-loop-p : goal.invariant-loop-p
-invariant-loop-p l = (l.p ≤ l.l.places) × (any l.p (over_weight_at l.s l.t.0) ≡ false)
-
-abbrev pub decreases-loop-p : goal.decreases-loop-p
-decreases-loop-p l = l.l.places - l.p
+invariant-loop-p l = (l.p ≤ places_of l.sheet) × (any l.p (over_weight_at l.sheet l.t.0) ≡ false)

@@ -1,4 +1,4 @@
--- `last_line::put_first`: its texts are put one after another, each where the one before it ended.
+-- Its texts are put one after another.
 use Rattle.lines.specs.Listing.{first_line}
 use Rattle.text.specs.Putting.{◌then◌}
 use Rattle.text.specs.Words.{word}
@@ -6,4 +6,4 @@ use Rattle.last_line.proofs.put_first.Goals as goal
 
 pub returns : goal.returns
 unfolding word first_line
-returns c = c.put_field-a.ensures.0 then c.put_word-b.ensures then c.put_done-c.ensures.0 then c.put_word.ensures
+returns c = c.field.ensures.written then c.word.ensures then c.put_done.ensures.written then c.word-2.ensures

@@ -1,6 +1,7 @@
--- `put_verdict`: the line follows the verdict's case.
+-- The line follows the verdict's case.
 use Rattle.std.proofs.Common.{arith}
-use Rattle.lines.specs.Listing.{last_line}
+use Rattle.lines.specs.Listing.{last_line, runs_line}
+use Rattle.text.specs.Words.{word}
 use Rattle.last_line.proofs.put_verdict.Goals as goal
 
 pub put_first-requires : goal.put_first-requires
@@ -9,8 +10,8 @@ put_first-requires c =
     (omega arith, omega arith, omega arith)
 
 pub returns-in-Runs : goal.returns-in-Runs
-unfolding last_line
-returns-in-Runs c = rw c.in-Runs.is c.put_runs.ensures
+unfolding last_line runs_line word
+returns-in-Runs c = rw c.in-Runs.is c.word.ensures
 
 pub returns-in-Short : goal.returns-in-Short
 unfolding last_line

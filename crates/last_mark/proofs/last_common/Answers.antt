@@ -1,15 +1,6 @@
-use Rattle.std.proofs.Common.{arith, refl, rules}
-use Rattle.last_mark.proofs.Scan.{start, more_both, done, found_both}
+use Rattle.std.proofs.Common.{rules}
+use Rattle.last_mark.proofs.Scan.{told_both}
 use Rattle.last_mark.proofs.last_common.Goals as goal
 
-pub loop-k-init : goal.loop-k-init
-loop-k-init c = (search rules, start _ _ (omega arith) (λ v p. p.below))
-
-pub returns-then-x-ne0 : goal.returns-then-x-ne0
-returns-then-x-ne0 c = found_both _ _ _ _ _ (omega arith) _ refl _ c.top.ensures
-
-pub loop-k-preserved : goal.loop-k-preserved
-loop-k-preserved c = (search rules, more_both _ _ _ _ _ (omega arith) _ refl _ (omega arith) c.if-x-ne0.false c.loop-k.invariant.1)
-
 pub returns : goal.returns
-returns c = done _ _ (omega arith) c.loop-k.invariant.1
+returns c = told_both c.last.ensures (λ x y z m. search rules)

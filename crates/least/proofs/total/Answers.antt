@@ -1,19 +1,19 @@
-use Rattle.std.proofs.Common.{arith, ◌≡◌}
-use Rattle.finite.specs.Sum.{sum_of_start, sum_of_more}
+-- Rests on `Totals`: an iterator's sum of the first n shares is that of the clause, and at most 1,000 for each.
+use Rattle.std.proofs.Common.{arith}
+use Rattle.std.proofs.Math.ListN.{take}
+use Rattle.std.proofs.lemmas.Iterator.{YieldsList-from_slice}
+use Rattle.std.proofs.lemmas.Iterator.Consumers.{sum_from_yields_List, fits_from_yields_list}
+use Rattle.least.proofs.Totals.{sum_taken, small_total}
 use Rattle.least.proofs.total.Goals as goal
 
-pub loop-i-init : goal.loop-i-init
-loop-i-init c = (omega arith, omega (arith, sum_of_start c.args.row.now), omega arith)
-
-pub overflow_add-sum : goal.overflow_add-sum
-overflow_add-sum c = omega (arith, c.requires.small.most c.loop-i.i (omega arith))
-
-pub loop-i-preserved : goal.loop-i-preserved
-loop-i-preserved c =
-    let small = c.requires.small.most c.loop-i.i (omega arith) in
-    (omega arith, omega (arith, sum_of_more c.args.row.now c.loop-i.i), omega arith)
+pub sum-requires-clause-fits : goal.sum-requires-clause-fits
+sum-requires-clause-fits c =
+    let small = rw (← c.flow.view_is) at c.requires.small in
+    let share = c.flow.inside.share.now in
+    fits_from_yields_list c.iter.result _ (YieldsList-from_slice (take c.args.n share) cc) (omega (arith, sum_taken share c.args.n, small_total share _ small))
 
 pub returns : goal.returns
 returns c =
-    let all : c.loop-i.i ≡ c.args.n = omega arith in
-    rw all at c.loop-i.invariant.1
+    let share = c.flow.inside.share.now in
+    rw (← c.flow.view_is)
+    (omega (arith, sum_from_yields_List c.iter.result _ c.sum.ensures.ran (YieldsList-from_slice (take c.args.n share) cc), sum_taken share c.args.n))

@@ -1,10 +1,10 @@
--- `lines::put_plan`: its texts are put one after another, each where the one before it ended.
-use Rattle.std.proofs.Common.{arith}
+-- Its texts are put one after another.
 use Rattle.lines.specs.Listing.{plan_line}
 use Rattle.text.specs.Putting.{◌then◌}
 use Rattle.text.specs.Words.{word}
 use Rattle.lines.proofs.put_plan.Goals as goal
 
-pub returns : goal.returns
+pub returns-clause-written : goal.returns-clause-written
 unfolding word plan_line
-returns c = (c.put_field-a.ensures.0 then c.put_field-b.ensures.0 then c.put_field-c.ensures.0 then c.put_word.ensures, omega arith)
+returns-clause-written c =
+    c.field.ensures.written then c.field-2.ensures.written then c.field-3.ensures.written then c.word.ensures

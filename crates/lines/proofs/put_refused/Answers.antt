@@ -1,4 +1,4 @@
--- `lines::put_refused`: its texts are put one after another, each where the one before it ended.
+-- Its texts are put one after another.
 use Rattle.lines.specs.Listing.{refused_line}
 use Rattle.text.specs.Putting.{◌then◌}
 use Rattle.text.specs.Words.{word}
@@ -6,4 +6,4 @@ use Rattle.lines.proofs.put_refused.Goals as goal
 
 pub returns : goal.returns
 unfolding word refused_line
-returns c = c.put_field-a.ensures.0 then c.put_word.ensures
+returns c = c.field.ensures.written then c.word.ensures

@@ -1,27 +1,28 @@
--- `listed::write_listing`: the text is put into a row of its own, and copied from there if it fits.
-use Rattle.std.proofs.Common.{arith, ◌≡◌, sym, ap, length, take, length-take-le}
-use Rattle.sheet.specs.declared.Fault.{Fault}
-use Rattle.listed.proofs.Copying.{too_short, copied}
+-- The text is put into a row of its own, and copied from there if it fits.
+use Rattle.std.proofs.Common.{ap, ◌∙◌, take}
+use Rattle.std.proofs.lemmas.Result.{err_from_is_err_and}
+use Rattle.text.specs.Output.{TextRow}
+use Rattle.listed.proofs.Copying.{refused, row_kept, written, row_written}
 use Rattle.listed.proofs.write_listing.Goals as goal
 
-pub returns-then-row-n : goal.returns-then-row-n
-returns-then-row-n c =
-    let is = c.plain_fault-f.ensures in
-    let all = too_short _ _ _ _ _ c.put_listing-n.ensures (omega arith) _ (omega (arith, ap (λ (f : Fault). f.number) is)) (ap (λ (f : Fault). f.item) is) in
-    record { result_value = all.0; row_value = all.1 }
+pub returns-in_err-find_room-clause-result_value : goal.returns-in_err-find_room-clause-result_value
+returns-in_err-find_room-clause-result_value c =
+    let at = ap (λ (o : TextRow). o.at) c.out.view_is in
+    let e = err_from_is_err_and c.from_residual.result c.from_residual.ensures.1 in
+    rw (e.1, e.2) (refused _ _ _ at c.put_listing.ensures _ c.in_err-find_room.ensures)
 
--- `part`: the part of the row that is the text
-pub slice_bounds-put_word-end : goal.slice_bounds-put_word-end
-slice_bounds-put_word-end c =
-    let part : length (take c.put_listing-n.result c.put_listing-n.new.row) ≡ c.put_listing-n.result =
-    length-take-le _ _ (omega arith) in
-    sym part
+pub returns-in_err-find_room-clause-row_value : goal.returns-in_err-find_room-clause-row_value
+returns-in_err-find_room-clause-row_value c =
+    let at = ap (λ (o : TextRow). o.at) c.out.view_is in
+    row_kept _ _ _ at c.put_listing.ensures _ c.in_err-find_room.ensures
 
-pub put_word-requires : goal.put_word-requires
-put_word-requires c =
-    let part : length (take c.put_listing-n.result c.put_listing-n.new.row) ≡ c.put_listing-n.result =
-    length-take-le _ _ (omega arith) in
-    omega (arith, part)
+pub returns-clause-result_value : goal.returns-clause-result_value
+returns-clause-result_value c =
+    let at = ap (λ (o : TextRow). o.at) c.out.view_is in
+    written _ _ _ at c.put_listing.ensures c.in_ok-find_room.ensures
 
-pub returns : goal.returns
-returns c = let all = copied _ _ _ _ _ c.put_listing-n.ensures _ _ (omega arith) c.put_word.ensures in record { result_value = all.0; row_value = all.1 }
+pub returns-clause-row_value : goal.returns-clause-row_value
+returns-clause-row_value c =
+    let at = ap (λ (o : TextRow). o.at) c.out.view_is in
+    let there = ap (λ (o : TextRow). take o.at o.row) c.out.view_is in
+    row_written _ _ _ at c.put_listing.ensures c.in_ok-find_room.ensures _ (c.copy_from_slice.ensures.after ∙ there)

@@ -1,18 +1,16 @@
-use Rattle.std.proofs.Common.{arith, refl}
-use Rattle.mark_count.proofs.Words.{few_bits, start, more, most, done}
+use Rattle.std.proofs.Common.{arith}
+use Rattle.mark_count.proofs.Words.{start, more, few_ones, most, done}
 use Rattle.mark_count.proofs.count_marks.Goals as goal
 
-pub loop-k-init : goal.loop-k-init
-loop-k-init c = start _ _ _ _ refl refl
+pub loop-word-init : goal.loop-word-init
+loop-word-init c = start _ _
 
 pub overflow_add-count : goal.overflow_add-count
-overflow_add-count c = omega (arith, most _ _ _ _ c.loop-k.invariant, c.loop-k.invariant.words, few_bits _ _ c.bits_set-count.ensures)
+overflow_add-count c =
+    omega (arith, most _ _ _ _ c.loop-word.invariant, c.loop-word.invariant.words, few_ones c.args.rows.now c.args.i (λ q. omega (arith, c.type_inv.rows q)) c.loop-word.word-index (omega (arith, c.loop-word-test.true)))
 
-pub loop-k-preserved : goal.loop-k-preserved
-loop-k-preserved c = more _ _ _ _ _ _ (omega arith) refl c.bits_set-count.ensures c.loop-k.invariant
-
-pub overflow_cast-result : goal.overflow_cast-result
-overflow_cast-result c = omega (arith, most _ _ _ _ c.loop-k.invariant, c.loop-k.invariant.words)
+pub loop-word-preserved : goal.loop-word-preserved
+loop-word-preserved c = more _ _ (λ q. omega (arith, c.type_inv.rows q)) _ (omega (arith, c.loop-word-test.true)) _ c.loop-word.invariant
 
 pub returns : goal.returns
-returns c = done _ _ _ _ (omega arith) c.loop-k.invariant
+returns c = done _ _ _ _ (omega (arith, c.loop-word-test.false)) c.loop-word.invariant

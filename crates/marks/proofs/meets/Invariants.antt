@@ -1,10 +1,7 @@
--- The invariant: `both` is the union, over the first k words, of what the two rows have in common.
-use Rattle.std.proofs.Common.{◌≤◌, ◌-◌}
+-- The invariant: `both` is the union, over the words so far, of what the two rows have in common.
+use Rattle.std.proofs.Common.{length}
 use Rattle.marks.proofs.Meeting.{Gathered}
 use Rattle.marks.proofs.meets.Given as goal
 
-abbrev pub invariant-loop-k : goal.invariant-loop-k
-invariant-loop-k l = (l.k ≤ 8) × Gathered l.a l.i l.b l.j l.both l.k
-
-abbrev pub decreases-loop-k : goal.decreases-loop-k
-decreases-loop-k l = 8 - l.k
+abbrev pub invariant-loop-x : goal.invariant-loop-x
+invariant-loop-x l = Gathered l.a l.i l.b l.j l.both (length l.yielded)

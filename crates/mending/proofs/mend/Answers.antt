@@ -1,87 +1,58 @@
--- The chain tells the call's fault; without one the reasons are copied from a row of the call's own, and the clean sheet is put.
-use Rattle.std.proofs.Common.{◌≤◌, arith, ◌≡◌, sym, length, take, length-take-le}
-use Rattle.calls.specs.Refusal.{FaultTold}
-use Rattle.ids.specs.Limits.{most_pairs}
-use Rattle.layout.specs.Layout.{LayoutOf}
-use Rattle.mending.specs.Mended.{sheet_fault, mend_fault}
-use Rattle.mending.proofs.Answers.{fault_told, refused, known, laid, mended}
+-- The tests tell the call's fault; without one the reasons are copied from a row of the call's own, and the clean sheet is put.
+use Rattle.std.proofs.Common.{◌≤◌, arith, ◌≡◌, sym, ap, subst, ◌∙◌, length, length-take-le}
+use Rattle.std.proofs.lemmas.Result.{err_from_is_err_and}
+use Rattle.sheet.specs.Laid.{Laid}
+use Rattle.sheet.specs.Table.{pairs_of}
+use Rattle.mending.proofs.Answers.{by_sheet, by_reasons, by_clean, few, stands, refused, known, mended}
 use Rattle.mending.proofs.mend.Goals as goal
 
--- `told`: the fault of the call
-pub returns-then-f-ne0 : goal.returns-then-f-ne0
-returns-then-f-ne0 c =
-    let told : FaultTold c.args.s.now (mend_fault c.args.s.now c.args.clean.now c.args.reasons.now) c.with_row-b.result =
-    fault_told _ _ _ _ _ _ c.examine_sheet-found.ensures.fault_told c.with_row-a.ensures c.with_row-b.ensures in
-    let all = refused _ _ _ _ told c.if-f-ne0.true _ (omega arith) (omega arith) in
-    record { result_value = all.0; clean_value = all.1.0; reasons_value = all.1.1 }
+pub returns-in_err-sheet : goal.returns-in_err-sheet
+returns-in_err-sheet c =
+    let e = err_from_is_err_and c.from_residual.result c.from_residual.ensures.1 in
+    let all = refused _ _ _ _ (by_sheet _ _ _ _ c.in_err-sheet.ensures.fault) in
+    record { result_value = rw (e.1, e.2) all.0; clean_value = all.1.0; reasons_value = all.1.1 }
 
--- `clear`, `layout_is`: what is known where there is no fault
+pub returns-in_err-find_room : goal.returns-in_err-find_room
+returns-in_err-find_room c =
+    let e = err_from_is_err_and c.from_residual-in_err-find_room.result c.from_residual-in_err-find_room.ensures.1 in
+    let sheet = c.in_ok-sheet.ensures in
+    let all = refused _ _ _ _ (by_reasons _ _ _ _ _ sheet.fault sheet.found.0 c.pairs-pairs.ensures _ c.in_err-find_room.ensures) in
+    record { result_value = rw (e.1, e.2) all.0; clean_value = all.1.0; reasons_value = all.1.1 }
+
+pub returns-in_err-find_room-2 : goal.returns-in_err-find_room-2
+returns-in_err-find_room-2 c =
+    let e = err_from_is_err_and c.from_residual-in_err-find_room-2.result c.from_residual-in_err-find_room-2.ensures.1 in
+    let sheet = c.in_ok-sheet.ensures in
+    let all = refused _ _ _ _ (by_clean _ _ _ _ _ sheet.fault sheet.found.0 c.pairs-pairs.ensures c.in_ok-find_room.ensures c.in_err-find_room-2.ensures) in
+    record { result_value = rw (e.1, e.2) all.0; clean_value = all.1.0; reasons_value = all.1.1 }
+
 pub slice_bounds-given-end : goal.slice_bounds-given-end
 slice_bounds-given-end c =
-    let told : FaultTold c.args.s.now (mend_fault c.args.s.now c.args.clean.now c.args.reasons.now) c.with_row-b.result =
-    fault_told _ _ _ _ _ _ c.examine_sheet-found.ensures.fault_told c.with_row-a.ensures c.with_row-b.ensures in
-    let given-long : most_pairs ≤ length c.examine_sheet-found.new.reasons =
-    omega arith in
-    let clear : (sheet_fault c.args.s.now).number ≡ 0 =
-    (known _ _ _ _ told c.if-f-ne0.false).sheet in
-    let layout_is : LayoutOf c.args.s.now c.examine_sheet-found.result.examined.layout =
-    c.examine_sheet-found.ensures.fault_told.laid clear in
-    let stands = laid _ _ _ _ told c.if-f-ne0.false in
-    omega (arith, given-long, layout_is.pairs, stands.limited.pairs)
+    let sheet = c.in_ok-sheet.ensures in
+    few _ _ _ _ sheet.fault sheet.found.0 c.pairs-pairs.ensures (omega arith)
 
--- `part`: the part of the row that has the reasons
-pub slice_bounds-put_word-end : goal.slice_bounds-put_word-end
-slice_bounds-put_word-end c =
-    let told : FaultTold c.args.s.now (mend_fault c.args.s.now c.args.clean.now c.args.reasons.now) c.with_row-b.result =
-    fault_told _ _ _ _ _ _ c.examine_sheet-found.ensures.fault_told c.with_row-a.ensures c.with_row-b.ensures in
-    let given-long : most_pairs ≤ length c.examine_sheet-found.new.reasons =
-    omega arith in
-    let clear : (sheet_fault c.args.s.now).number ≡ 0 =
-    (known _ _ _ _ told c.if-f-ne0.false).sheet in
-    let layout_is : LayoutOf c.args.s.now c.examine_sheet-found.result.examined.layout =
-    c.examine_sheet-found.ensures.fault_told.laid clear in
-    let part : length (take c.examine_sheet-found.result.examined.layout.pairs c.examine_sheet-found.new.reasons) ≡ c.examine_sheet-found.result.examined.layout.pairs =
-    let stands = laid _ _ _ _ told c.if-f-ne0.false in
-    length-take-le _ _ (omega (arith, given-long, layout_is.pairs, stands.limited.pairs)) in
-    sym part
+pub slice_bounds-copy_from_slice-end-3 : goal.slice_bounds-copy_from_slice-end-3
+slice_bounds-copy_from_slice-end-3 c =
+    let sheet = c.in_ok-sheet.ensures in
+    sym (length-take-le _ _ (few _ _ _ _ sheet.fault sheet.found.0 c.pairs-pairs.ensures (omega arith)))
 
-pub put_word-requires : goal.put_word-requires
-put_word-requires c =
-    let told : FaultTold c.args.s.now (mend_fault c.args.s.now c.args.clean.now c.args.reasons.now) c.with_row-b.result =
-    fault_told _ _ _ _ _ _ c.examine_sheet-found.ensures.fault_told c.with_row-a.ensures c.with_row-b.ensures in
-    let given-long : most_pairs ≤ length c.examine_sheet-found.new.reasons =
-    omega arith in
-    let clear : (sheet_fault c.args.s.now).number ≡ 0 =
-    (known _ _ _ _ told c.if-f-ne0.false).sheet in
-    let layout_is : LayoutOf c.args.s.now c.examine_sheet-found.result.examined.layout =
-    c.examine_sheet-found.ensures.fault_told.laid clear in
-    let part : length (take c.examine_sheet-found.result.examined.layout.pairs c.examine_sheet-found.new.reasons) ≡ c.examine_sheet-found.result.examined.layout.pairs =
-    let stands = laid _ _ _ _ told c.if-f-ne0.false in
-    length-take-le _ _ (omega (arith, given-long, layout_is.pairs, stands.limited.pairs)) in
-    omega (arith, part, layout_is.pairs, (known _ _ _ _ told c.if-f-ne0.false).reasons_long)
+pub copy_from_slice-requires : goal.copy_from_slice-requires
+copy_from_slice-requires c =
+    let sheet = c.in_ok-sheet.ensures in
+    let none = by_clean _ _ _ _ _ sheet.fault sheet.found.0 c.pairs-pairs.ensures c.in_ok-find_room.ensures c.in_ok-find_room-2.ensures in
+    let room : c.pairs-pairs.result ≤ length c.args.reasons.now =
+    omega (arith, c.pairs-pairs.ensures, ap pairs_of sheet.found.0, (known _ _ _ none).reasons_long) in
+    length-take-le _ _ room ∙ sym (length-take-le _ _ (few _ _ _ _ sheet.fault sheet.found.0 c.pairs-pairs.ensures (omega arith)))
 
-pub put_clean-n-requires : goal.put_clean-n-requires
-put_clean-n-requires c =
-    let told : FaultTold c.args.s.now (mend_fault c.args.s.now c.args.clean.now c.args.reasons.now) c.with_row-b.result =
-    fault_told _ _ _ _ _ _ c.examine_sheet-found.ensures.fault_told c.with_row-a.ensures c.with_row-b.ensures in
-    let clear : (sheet_fault c.args.s.now).number ≡ 0 =
-    (known _ _ _ _ told c.if-f-ne0.false).sheet in
-    let layout_is : LayoutOf c.args.s.now c.examine_sheet-found.result.examined.layout =
-    c.examine_sheet-found.ensures.fault_told.laid clear in
-    let stands = laid _ _ _ _ told c.if-f-ne0.false in
-    let pairs = c.examine_sheet-found.ensures.pairs_known clear in
-    record { laid_by = (stands, layout_is); holds_kept = (pairs.holds, pairs.count, (known _ _ _ _ told c.if-f-ne0.false).clean_long) }
+pub put_clean-requires-clause-laid : goal.put_clean-requires-clause-laid
+put_clean-requires-clause-laid c = let sheet = c.in_ok-sheet.ensures in subst Laid (sym sheet.found.0) (stands _ sheet.fault)
 
 pub returns : goal.returns
 returns c =
-    let told : FaultTold c.args.s.now (mend_fault c.args.s.now c.args.clean.now c.args.reasons.now) c.with_row-b.result =
-    fault_told _ _ _ _ _ _ c.examine_sheet-found.ensures.fault_told c.with_row-a.ensures c.with_row-b.ensures in
-    let given-long : most_pairs ≤ length c.examine_sheet-found.new.reasons =
-    omega arith in
-    let clear : (sheet_fault c.args.s.now).number ≡ 0 =
-    (known _ _ _ _ told c.if-f-ne0.false).sheet in
-    let layout_is : LayoutOf c.args.s.now c.examine_sheet-found.result.examined.layout =
-    c.examine_sheet-found.ensures.fault_told.laid clear in
-    let pairs = c.examine_sheet-found.ensures.pairs_known clear in
-    let all = mended _ _ _ _ told c.if-f-ne0.false _ _ _ _ _ _ _ c.put_clean-n.ensures pairs.written given-long layout_is.pairs c.put_word.ensures in
+    let sheet = c.in_ok-sheet.ensures in
+    let none = by_clean _ _ _ _ _ sheet.fault sheet.found.0 c.pairs-pairs.ensures c.in_ok-find_room.ensures c.in_ok-find_room-2.ensures in
+    let is : c.pairs-pairs.result ≡ pairs_of c.args.s.now = c.pairs-pairs.ensures ∙ ap pairs_of sheet.found.0 in
+    let long = few _ _ _ _ sheet.fault sheet.found.0 c.pairs-pairs.ensures (omega arith) in
+    let put = rw sheet.found.0 at c.put_clean.ensures in
+    let all = mended _ _ _ none _ _ _ _ _ _ put sheet.found.1.written is long c.copy_from_slice.ensures.after in
     record { result_value = all.0; clean_value = all.1.0; reasons_value = all.1.1 }

@@ -1,67 +1,92 @@
 -- The repeats first: without one all pairs stand in rows. Then the cycles of the plan in the rows, which is the sheet's; turned, it has none either.
-use Rattle.std.proofs.Common.{arith, refl, sym, ap, ◌∙◌}
+use Rattle.std.proofs.Common.{Bool, ap, subst, ◌∙◌}
+use Rattle.std.proofs.lemmas.Result.{IfOk-weaker, err_from_is_err_and}
 use Rattle.closure.proofs.Turned.{turned_cycle}
-use Rattle.sheet.specs.Chain.{told}
-use Rattle.sheet.specs.Told.{as_told}
-use Rattle.sheet.specs.declared.Fault.{Fault}
-use Rattle.order.proofs.Cycles.{in_rows, turned_in_rows, cycle_found, after_within, ahead_within, wanted_rows, fault_10, fault_11, no_fault_lem}
+use Rattle.closure.specs.PlanRows.{Predecessors}
+use Rattle.plan.specs.Net.{Plan}
+use Rattle.sheet.specs.Answered.{told_some}
+use Rattle.sheet.specs.Told.{tell, plain}
+use Rattle.sorting.specs.Rows.{has_cycle}
+use Rattle.order.proofs.Cycles.{in_rows, cycle_told, after_within, ahead_within, wanted_rows, fault_10}
 use Rattle.order.proofs.order_fault.Goals as goal
 
-pub returns-then-repeat-ne0 : goal.returns-then-repeat-ne0
-returns-then-repeat-ne0 c =
-    record {
-      value = fault_10 _ _ c.mark_pairs-repeat.ensures.value c.if-repeat-ne0.true;
-      wanted_rows = λ e. absurd (c.if-repeat-ne0.true e);
-    }
+pub returns-in_err-mark_pairs-clause-fault : goal.returns-in_err-mark_pairs-clause-fault
+returns-in_err-mark_pairs-clause-fault c =
+    let p = err_from_is_err_and c.from_residual.result c.from_residual.ensures.1 in rw (p.1, p.2) (fault_10 _ c.in_err-mark_pairs.ensures.fault (told_some _))
+
+pub invariant_of-pairs : goal.invariant_of-pairs
+invariant_of-pairs c = record { within = in_rows _ c.requires.laid c.requires.events_named c.in_ok-mark_pairs.ensures.pairs_held c.events.ensures c.pairs.ensures }
+
+pub invariant_of-pairs-in-Before : goal.invariant_of-pairs-in-Before
+invariant_of-pairs-in-Before c =
+    record { within = in_rows _ c.requires.laid c.requires.events_named c.in_ok-mark_pairs.ensures.pairs_held c.events.ensures c.pairs.ensures }
 
 pub arrange-requires : goal.arrange-requires
 arrange-requires c =
-    let given = c.requires in
-    -- without a repeat all pairs stand in the rows
-    let held = c.mark_pairs-repeat.ensures.pairs_held c.if-repeat-ne0.false in
-    record {
-      plan_in_rows = in_rows _ _ given.laid_by given.s_value held;
-      within = ahead_within _ _ given.laid_by given.s_value held given.blank.1;
-    }
+    record { within = ahead_within _ c.requires.laid c.requires.events_named c.in_ok-mark_pairs.ensures.pairs_held c.events.ensures c.pairs.ensures c.requires.blank.1 }
 
-pub returns-then-arrange : goal.returns-then-arrange
-returns-then-arrange c =
-    let given = c.requires in
-    let held = c.mark_pairs-repeat.ensures.pairs_held c.if-repeat-ne0.false in
-    let cycle = c.arrange.ensures.value ∙ cycle_found _ _ given.laid_by given.s_value held in
-    let told-11 = fault_11 _ _ c.mark_pairs-repeat.ensures.value c.if-repeat-ne0.false (search (told, cycle)) in
-    let is = c.plain_fault.ensures in
-    record {
-      value = as_told 11 0 is (omega arith) refl told-11;
-      wanted_rows = λ e. absurd (omega (arith, ap (λ (f : Fault). f.number) is));
-    }
+pub invariant_of-pairs-in-Both : goal.invariant_of-pairs-in-Both
+invariant_of-pairs-in-Both c =
+    record { within = in_rows _ c.requires.laid c.requires.events_named c.in_ok-mark_pairs.ensures.pairs_held c.events.ensures c.pairs.ensures }
 
-pub arrange-requires-then-wanted : goal.arrange-requires-then-wanted
-arrange-requires-then-wanted c =
-    let given = c.requires in
-    let held = c.mark_pairs-repeat.ensures.pairs_held c.if-repeat-ne0.false in
-    record {
-      plan_in_rows = turned_in_rows _ _ given.laid_by given.s_value held;
-      within = after_within _ _ given.laid_by given.s_value held;
-    }
+pub arrange-requires-in-Both : goal.arrange-requires-in-Both
+arrange-requires-in-Both c =
+    record { within = ahead_within _ c.requires.laid c.requires.events_named c.in_ok-mark_pairs.ensures.pairs_held c.events.ensures c.pairs.ensures c.requires.blank.1 }
 
-pub returns-then-wanted : goal.returns-then-wanted
-returns-then-wanted c =
-    let given = c.requires in
-    let held = c.mark_pairs-repeat.ensures.pairs_held c.if-repeat-ne0.false in
-    let cycle = c.arrange.ensures.value ∙ cycle_found _ _ given.laid_by given.s_value held in
-    let none = c.arrange-then-wanted.ensures.value ∙ turned_cycle _ ∙ sym c.arrange.ensures.value ∙ c.if-arrange.false in
-    record {
-      value = c.no_fault.ensures ∙ no_fault_lem _ _ c.mark_pairs-repeat.ensures.value c.if-repeat-ne0.false (search (told, cycle));
-      wanted_rows = λ e. wanted_rows _ _ given.laid_by given.s_value held (λ t. c.arrange-then-wanted.ensures.predecessors none tt) (c.arrange.ensures.predecessors c.if-arrange.false);
-    }
+pub returns-in_err-arrange-in-Both-clause-fault : goal.returns-in_err-arrange-in-Both-clause-fault
+returns-in_err-arrange-in-Both-clause-fault c =
+    let first = c.in_ok-mark_pairs.ensures in
+    let p = err_from_is_err_and c.from_residual-in_err-arrange-in-Both.result c.from_residual-in_err-arrange-in-Both.ensures.1 in
+    rw (p.1, p.2) (cycle_told _ c.requires.laid c.requires.events_named first.pairs_held c.events.ensures c.pairs.ensures first.fault c.in_err-arrange-in-Both.ensures.fault)
 
-pub returns : goal.returns
-returns c =
-    let given = c.requires in
-    let held = c.mark_pairs-repeat.ensures.pairs_held c.if-repeat-ne0.false in
-    let cycle = c.arrange.ensures.value ∙ cycle_found _ _ given.laid_by given.s_value held in
-    record {
-      value = c.no_fault-2.ensures ∙ no_fault_lem _ _ c.mark_pairs-repeat.ensures.value c.if-repeat-ne0.false (search (told, cycle));
-      wanted_rows = λ e. wanted_rows _ _ given.laid_by given.s_value held (λ t. absurd (rw c.if-wanted.false at t)) (c.arrange.ensures.predecessors c.if-arrange.false);
-    }
+pub arrange-requires-in-Both-2 : goal.arrange-requires-in-Both-2
+arrange-requires-in-Both-2 c =
+    record { within = rw c.turned-in-Both.ensures (after_within _ c.requires.laid c.requires.events_named c.in_ok-mark_pairs.ensures.pairs_held c.events.ensures c.pairs.ensures) }
+
+pub returns-in-Nothing-clause-fault : goal.returns-in-Nothing-clause-fault
+returns-in-Nothing-clause-fault c =
+    let first = c.in_ok-mark_pairs.ensures in
+    cycle_told _ c.requires.laid c.requires.events_named first.pairs_held c.events.ensures c.pairs.ensures first.fault c.find_cycle.ensures
+
+pub returns-in-Before-clause-fault : goal.returns-in-Before-clause-fault
+returns-in-Before-clause-fault c =
+    let first = c.in_ok-mark_pairs.ensures in
+    cycle_told _ c.requires.laid c.requires.events_named first.pairs_held c.events.ensures c.pairs.ensures first.fault c.arrange.ensures.fault
+
+pub returns-in-Before-clause-rows : goal.returns-in-Before-clause-rows
+returns-in-Before-clause-rows c =
+    IfOk-weaker _ _ _ (λ x ahead.
+    wanted_rows _ c.requires.laid c.requires.events_named c.in_ok-mark_pairs.ensures.pairs_held c.events.ensures c.pairs.ensures
+    (λ t. absurd (rw c.in-Before.is at t)) (λ t. ahead)) c.arrange.ensures.predecessors
+
+pub returns-in_ok-arrange-in-Both-clause-fault : goal.returns-in_ok-arrange-in-Both-clause-fault
+returns-in_ok-arrange-in-Both-clause-fault c =
+    let first = c.in_ok-mark_pairs.ensures in
+    let turned = ap (λ (P : Plan). tell 11 (plain (has_cycle P))) c.turned-in-Both.ensures ∙ ap (λ (b : Bool). tell 11 (plain b)) (turned_cycle _) in
+    cycle_told _ c.requires.laid c.requires.events_named first.pairs_held c.events.ensures c.pairs.ensures first.fault (c.arrange-in-Both-2.ensures.fault ∙ turned)
+
+pub returns-in_ok-arrange-in-Both-clause-rows : goal.returns-in_ok-arrange-in-Both-clause-rows
+returns-in_ok-arrange-in-Both-clause-rows c =
+    IfOk-weaker _ _ _ (λ x after.
+    wanted_rows _ c.requires.laid c.requires.events_named c.in_ok-mark_pairs.ensures.pairs_held c.events.ensures c.pairs.ensures
+    (λ t. subst (λ (P : Plan). Predecessors P c.arrange-in-Both-2.new.rows) c.turned-in-Both.ensures after) (λ t. c.in_ok-arrange-in-Both.ensures.predecessors)) c.arrange-in-Both-2.ensures.predecessors
+
+pub invariant_of-pairs-in-After : goal.invariant_of-pairs-in-After
+invariant_of-pairs-in-After c =
+    record { within = in_rows _ c.requires.laid c.requires.events_named c.in_ok-mark_pairs.ensures.pairs_held c.events.ensures c.pairs.ensures }
+
+pub arrange-requires-in-After : goal.arrange-requires-in-After
+arrange-requires-in-After c =
+    record { within = rw c.turned.ensures (after_within _ c.requires.laid c.requires.events_named c.in_ok-mark_pairs.ensures.pairs_held c.events.ensures c.pairs.ensures) }
+
+pub returns-in-After-clause-fault : goal.returns-in-After-clause-fault
+returns-in-After-clause-fault c =
+    let first = c.in_ok-mark_pairs.ensures in
+    let turned = ap (λ (P : Plan). tell 11 (plain (has_cycle P))) c.turned.ensures ∙ ap (λ (b : Bool). tell 11 (plain b)) (turned_cycle _) in
+    cycle_told _ c.requires.laid c.requires.events_named first.pairs_held c.events.ensures c.pairs.ensures first.fault (c.arrange-in-After.ensures.fault ∙ turned)
+
+pub returns-in-After-clause-rows : goal.returns-in-After-clause-rows
+returns-in-After-clause-rows c =
+    IfOk-weaker _ _ _ (λ x after.
+    wanted_rows _ c.requires.laid c.requires.events_named c.in_ok-mark_pairs.ensures.pairs_held c.events.ensures c.pairs.ensures
+    (λ t. subst (λ (P : Plan). Predecessors P c.arrange-in-After.new.rows) c.turned.ensures after) (λ t. absurd (rw c.in-After.is at t))) c.arrange-in-After.ensures.predecessors

@@ -1,12 +1,10 @@
--- `place::fill` meets its contract. The invariant: what the events below v give and take stands in the two rows.
-use Rattle.std.proofs.Common.{◌-◌, ◌≤◌}
+-- The invariant: what the events below v give and take stands in the two rows.
+use Rattle.std.proofs.Common.{◌≤◌}
 use Rattle.finite.specs.Filled.{Filled}
 use Rattle.place.specs.Place.{gives_in, takes_in}
+use Rattle.sheet.specs.Table.{events_of}
 use Rattle.place.proofs.fill.Given as goal
 
 abbrev pub invariant-loop-v : goal.invariant-loop-v
 invariant-loop-v l =
-    (l.v ≤ l.l.events) × Filled (gives_in l.s l.p.0) l.v l.initial.free l.free × Filled (takes_in l.s l.p.0) l.v l.initial.share l.share
-
-abbrev pub decreases-loop-v : goal.decreases-loop-v
-decreases-loop-v l = l.l.events - l.v
+    (l.v ≤ events_of l.sheet) × Filled (gives_in l.sheet l.p.0) l.v l.initial.free l.free × Filled (takes_in l.sheet l.p.0) l.v l.initial.share l.share

@@ -1,19 +1,15 @@
--- `place::place_counts` meets its contract: settled with nothing for what is enough, a place tells the least opening count, which the limits
--- of a sheet bound.
-use Rattle.std.proofs.Common.{◌<◌, arith, ◌∙◌, w32}
+-- Settled with nothing for what is enough, a place tells the least opening count, which the limits of a sheet bound.
+use Rattle.std.proofs.Common.{arith, ◌∙◌, w32}
 use Rattle.std.proofs.Math.Facts.{to_z-of_z}
-use Rattle.sheet.specs.Table.{places_of}
 use Rattle.place.specs.Bounds.{most_least}
 use Rattle.place.specs.Judged.{judged, least_is, spare_is}
 use Rattle.place.proofs.place_counts.Goals as goal
 
 pub less-spare-requires : goal.less-spare-requires
 less-spare-requires c =
-    let s = c.args.s.now in
-    let place : c.args.p.0 < places_of s = omega (arith, c.requires.layout_of.places) in
     let least = least_is _ _ _ _ _ _ _ _ _ c.settle_place-least.ensures (omega arith) in
-    let most = most_least _ c.requires.faultless c.args.p.0 place in
-    let opens = c.requires.faultless.openings c.args.p.0 place in
+    let most = most_least _ c.requires.faultless c.args.p.0 c.requires.known in
+    let opens = c.requires.faultless.openings c.args.p.0 c.requires.known in
     (omega (arith, c.opening-opens.ensures, opens), omega (arith, least, most))
 
 pub returns : goal.returns

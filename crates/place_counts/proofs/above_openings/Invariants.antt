@@ -1,11 +1,9 @@
--- `place_counts::above_openings` meets its contract. The invariant: the numbers below p are what is above the opening counts.
+-- The invariant: the numbers below p are what is above the opening counts.
 use Rattle.std.proofs.Common.{◌-◌, ◌≤◌, get_or}
 use Rattle.finite.specs.Filled.{Filled}
 use Rattle.sheet.specs.Items.{opening_at}
+use Rattle.sheet.specs.Table.{places_of}
 use Rattle.place_counts.proofs.above_openings.Given as goal
 
 abbrev pub invariant-loop-p : goal.invariant-loop-p
-invariant-loop-p l = (l.p ≤ l.l.places) × Filled (λ q. get_or l.least q 0 - opening_at l.s q) l.p l.initial.row l.row
-
-abbrev pub decreases-loop-p : goal.decreases-loop-p
-decreases-loop-p l = l.places - l.p
+invariant-loop-p l = (l.p ≤ places_of l.sheet) × Filled (λ q. get_or l.least q 0 - opening_at l.sheet q) l.p l.initial.row l.row

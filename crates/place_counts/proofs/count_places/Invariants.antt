@@ -1,16 +1,17 @@
--- `place_counts::count_places` meets its contract. The invariant: the places below p are counted, and the done set of the first short one of
--- them is kept; the amounts are as many as before, and nobody but events of the plan is fed.
-use Rattle.std.proofs.Common.{◌-◌, ◌≤◌, ◌≡◌, length}
+-- The invariant: the places below p are counted, and the done set of the first short one of them is kept; the rows are for the plan's events as before.
+use Rattle.std.proofs.Common.{◌≤◌}
 use Rattle.finite.specs.Filled.{Filled}
-use Rattle.least.specs.PlaceRows.{UnfedFrom}
+use Rattle.least.specs.PlaceRows.{RowsFor}
+use Rattle.sheet.specs.Table.{places_of, events_of}
 use Rattle.place_counts.specs.Asked.{asked_at}
 use Rattle.place_counts.specs.First.{FirstTo}
 use Rattle.place_counts.proofs.count_places.Given as goal
 
 abbrev pub invariant-loop-p : goal.invariant-loop-p
 invariant-loop-p l =
-    (l.p ≤ l.l.places) × Filled (asked_at l.least l.s) l.p l.initial.row l.row × FirstTo l.s l.p l.first
-    × (length l.amount ≡ length l.initial.amount) × UnfedFrom l.l.events l.fed
-
-abbrev pub decreases-loop-p : goal.decreases-loop-p
-decreases-loop-p l = l.l.places - l.p
+    record {
+      in_range : l.p ≤ places_of l.sheet;
+      counted : Filled (asked_at l.least l.sheet) l.p l.initial.row l.row;
+      known : FirstTo l.sheet l.p l.first;
+      rows : RowsFor (events_of l.sheet) l.flow.amount l.flow.fed;
+    }

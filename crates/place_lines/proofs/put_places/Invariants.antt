@@ -1,5 +1,4 @@
--- `put_places`: the loop has put the lines of the places below p, in at most 67 bytes each.
-use Rattle.std.proofs.Common.{◌-◌}
+-- The loop has put the lines of the places below p, in at most 67 bytes each.
 use Rattle.sheet.specs.Table.{places_of}
 use Rattle.sheet.specs.Items.{net_of, plan_of}
 use Rattle.lines.specs.Room.{place_room}
@@ -8,7 +7,4 @@ use Rattle.text.specs.Putting.{Putting}
 use Rattle.place_lines.proofs.put_places.Given as goal
 
 abbrev pub invariant-loop-p : goal.invariant-loop-p
-invariant-loop-p l = Putting l.initial.row l.row l.at (line_of (net_of l.s) (plan_of l.s)) place_room (places_of l.s) l.p l.end
-
-abbrev pub decreases-loop-p : goal.decreases-loop-p
-decreases-loop-p l = l.places - l.p
+invariant-loop-p l = Putting l.initial.out.row l.out.row l.initial.out.at (line_of (net_of l.sheet) (plan_of l.sheet)) place_room (places_of l.sheet) l.p l.out.at

@@ -1,12 +1,10 @@
 -- The invariant: the reasons so far are written, the kept pairs are marked and counted (`SoFar`). So the marks say the reason of the next pair.
-use Rattle.std.proofs.Common.{◌≤◌, ◌-◌, length}
+use Rattle.std.proofs.Common.{◌≤◌, length}
 use Rattle.ids.specs.Limits.{most_pairs}
+use Rattle.sheet.specs.Table.{pairs_of}
 use Rattle.reasons.proofs.Giving.{SoFar}
 use Rattle.reasons.proofs.give_reasons.Given as goal
 
 abbrev pub invariant-loop-i : goal.invariant-loop-i
 invariant-loop-i l =
-    (l.i ≤ l.l.pairs) × (most_pairs ≤ length l.reasons) × SoFar l.s l.initial.reasons l.reasons l.from l.to l.succ l.i l.kept
-
-abbrev pub decreases-loop-i : goal.decreases-loop-i
-decreases-loop-i l = l.l.pairs - l.i
+    (l.i ≤ pairs_of l.sheet) × (most_pairs ≤ length l.reasons) × SoFar l.sheet l.initial.reasons l.reasons l.succ l.kept l.i

@@ -1,4 +1,4 @@
-use Rattle.std.proofs.Common.{◌<◌, arith, rules}
+use Rattle.std.proofs.Common.{arith, rules}
 use Rattle.search.proofs.Gain.{zeros_empty}
 use Rattle.finite.specs.Queue.{queued_le}
 use Rattle.search.proofs.Rounds.{search_start, search_more, search_done}
@@ -10,18 +10,8 @@ seed-tail-requires c = search (rules, zeros_empty)
 pub loop-head-init : goal.loop-head-init
 loop-head-init c = search_start (search) (zeros_empty 8)
 
-pub overflow_add-head : goal.overflow_add-head
-overflow_add-head c =
-    -- the place at `head` is one of 256
-    let place : c.loop-head.head < 256 =
-    omega (arith, queued_le c.loop-head.invariant.queued) in
-    omega (arith, place)
-
 pub loop-head-smaller : goal.loop-head-smaller
-loop-head-smaller c =
-    let place : c.loop-head.head < 256 =
-    omega (arith, queued_le c.loop-head.invariant.queued) in
-    omega (arith, place)
+loop-head-smaller c = omega (arith, queued_le c.loop-head.invariant.queued)
 
 pub loop-head-preserved : goal.loop-head-preserved
 loop-head-preserved c = search_more c.requires.narrow c.loop-head-test.true c.loop-head.invariant (search) (search)

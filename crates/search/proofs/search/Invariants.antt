@@ -6,7 +6,7 @@ use Rattle.search.proofs.search.Given as goal
 
 abbrev pub invariant-loop-head : goal.invariant-loop-head
 invariant-loop-head l =
-    Searching l.pred l.fed l.share l.n (takers_of l.takers l.queue l.origin l.tail) (givers_of l.givers l.via) l.head
+    Searching l.pred l.fed l.share l.n (takers_of l.takers l.trail.queue l.trail.origin l.tail) (givers_of l.givers l.trail.via) l.head
 
 abbrev pub decreases-loop-head : goal.decreases-loop-head
 decreases-loop-head l =

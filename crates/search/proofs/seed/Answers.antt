@@ -1,4 +1,4 @@
-use Rattle.std.proofs.Common.{arith, rules, ◌≡◌}
+use Rattle.std.proofs.Common.{arith, rules}
 use Rattle.search.proofs.Rounds.{seed_start, seed_more, seed_pass}
 use Rattle.search.proofs.seed.Goals as goal
 use Rattle.search.proofs.seed.Goals.{then-share-w-gt0, else-share-w-gt0}
@@ -15,9 +15,3 @@ loop-w-preserved c =
       | else-share-w-gt0 w ↦
           rw (w.takers-is, w.queue-is, w.tail-is) (search rules, omega arith, seed_pass l.invariant.2 (omega (arith, w.if-share-w-gt0.false)))
     ]
-
-pub returns : goal.returns
-returns c =
-    let l = c.loop-w in
-    let all : l.w ≡ c.args.n = omega arith in
-    rw all at l.invariant.2

@@ -1,10 +1,7 @@
 -- The loop's invariant: the takers below w that have a share are listed.
-use Rattle.std.proofs.Common.{◌-◌, ◌≤◌}
+use Rattle.std.proofs.Common.{◌≤◌}
 use Rattle.search.specs.Steps.{Seeded}
 use Rattle.search.proofs.seed.Given as goal
 
 abbrev pub invariant-loop-w : goal.invariant-loop-w
 invariant-loop-w l = (l.w ≤ l.n) × (l.tail ≤ l.w) × Seeded l.share l.w l.takers l.queue l.tail
-
-abbrev pub decreases-loop-w : goal.decreases-loop-w
-decreases-loop-w l = l.n - l.w

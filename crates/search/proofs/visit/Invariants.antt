@@ -8,8 +8,8 @@ use Rattle.search.proofs.visit.Given as goal
 
 abbrev pub invariant-loop-x : goal.invariant-loop-x
 invariant-loop-x l =
-    Visiting l.pred l.fed (takers_of l.initial.takers l.initial.queue l.initial.origin l.initial.end) (givers_of l.initial.givers l.initial.via)
-    (takers_of l.takers l.queue l.origin l.end) (givers_of l.givers l.via)
+    Visiting l.pred l.fed (takers_of l.initial.takers l.initial.trail.queue l.initial.trail.origin l.initial.end) (givers_of l.initial.givers l.initial.trail.via)
+    (takers_of l.takers l.trail.queue l.trail.origin l.end) (givers_of l.givers l.trail.via)
 
 abbrev pub decreases-loop-x : goal.decreases-loop-x
 decreases-loop-x l =

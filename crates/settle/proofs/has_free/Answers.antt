@@ -1,10 +1,10 @@
 -- Rests on what a test of a mark says of a set.
 use Rattle.std.proofs.Common.{rules}
-use Rattle.settle.proofs.Rounds.{unmet, met}
+use Rattle.settle.proofs.Rounds.{said_met, said_unmet}
 use Rattle.settle.proofs.has_free.Goals as goal
 
-pub returns-then-not-is_marked : goal.returns-then-not-is_marked
-returns-then-not-is_marked c = search (rules, unmet)
+pub returns-then-is_marked : goal.returns-then-is_marked
+returns-then-is_marked c = search (rules, said_met)
 
-pub returns : goal.returns
-returns c = search (rules, met)
+pub returns-else-is_marked : goal.returns-else-is_marked
+returns-else-is_marked c = search (rules, said_unmet)

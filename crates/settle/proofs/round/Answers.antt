@@ -1,13 +1,11 @@
 -- Rests on `rounded`: what a search and the moves after it come to.
-use Rattle.std.proofs.Common.{arith, rules}
-use Rattle.settle.proofs.Rounds.{narrow, rounded}
+use Rattle.std.proofs.Common.{ap}
+use Rattle.tokenflow.specs.Rows.{Rows}
+use Rattle.settle.proofs.Rounds.{rounded}
 use Rattle.settle.proofs.round.Goals as goal
 
-pub search-tail-requires : goal.search-tail-requires
-search-tail-requires c = record { n_le_most_events = c.requires.holds.events; narrow = narrow c.requires.holds c.requires.order }
-
-pub advance-requires : goal.advance-requires
-advance-requires c = record { holds = search rules; order = search rules; tail_le_most_events = omega (arith, c.search-tail.ensures.fits, c.requires.holds.events) }
-
-pub returns : goal.returns
-returns c = record { moves = search rules; rounded = rounded c.search-tail.ensures (search) }
+pub returns-clause-rounded : goal.returns-clause-rounded
+returns-clause-rounded c =
+    let fed = ap (λ (r : Rows). r.fed) c.flow.view_is in
+    let share = ap (λ (r : Rows). r.share) c.flow.view_is in
+    rounded (rw (fed, share) at c.search-tail.ensures) c.advance.ensures.advanced

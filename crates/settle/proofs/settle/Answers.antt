@@ -1,10 +1,12 @@
--- `settle::settle` meets its contract: where what is lacking is little enough, nothing is moved.
-use Rattle.std.proofs.Common.{true, inl, ◌≡◌, rules}
-use Rattle.drawing.specs.Moves.{moved_none}
+-- Where what is lacking is little enough, nothing is moved.
+use Rattle.std.proofs.Common.{ap, true, inl, ◌≡◌, rules}
+use borrow.Author.Tests.{not-false}
+use Rattle.tokenflow.specs.Rows.{Rows}
 use Rattle.settle.proofs.Rounds.{covered}
 use Rattle.settle.proofs.settle.Goals as goal
 
-pub returns-then-is_covered : goal.returns-then-is_covered
-returns-then-is_covered c =
-    let enough : c.is_covered.result ≡ true = search rules in
-    record { moves = moved_none _ _ _ c.requires.holds; ended = inl (covered _ _ _ c.is_covered.ensures enough) }
+pub returns-else-not-is_covered-clause-ended : goal.returns-else-not-is_covered-clause-ended
+returns-else-not-is_covered-clause-ended c =
+    let enough : c.is_covered.result ≡ true = search (rules, not-false) in
+    let share = ap (λ (r : Rows). r.share) c.flow.view_is in
+    inl (covered _ _ _ (rw share at c.is_covered.ensures) enough)

@@ -1,13 +1,10 @@
 -- The loop's invariant: the rounds so far move tokens. What is lacking is the measure: each round but the last leaves less of it.
-use Rattle.tokenflow.specs.Rows.{rows}
 use Rattle.tokenflow.specs.Flowing.{lacking}
 use Rattle.drawing.specs.Moves.{Moved}
 use Rattle.settle.proofs.settle_by_rounds.Given as goal
 
 abbrev pub invariant-loop-takers : goal.invariant-loop-takers
-invariant-loop-takers l =
-    Moved l.n l.pred (rows l.initial.amount l.initial.fed l.initial.free l.initial.share) (rows l.amount l.fed l.free l.share)
+invariant-loop-takers l = Moved l.n l.pred l.initial.flow l.flow
 
 abbrev pub decreases-loop-takers : goal.decreases-loop-takers
-decreases-loop-takers l =
-    lacking l.n (rows l.amount l.fed l.free l.share)
+decreases-loop-takers l = lacking l.n l.flow

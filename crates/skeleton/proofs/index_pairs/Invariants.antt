@@ -5,7 +5,7 @@ use Rattle.skeleton.specs.Linked.{Linked}
 use Rattle.skeleton.proofs.index_pairs.Given as goal
 
 abbrev pub invariant-loop-i : goal.invariant-loop-i
-invariant-loop-i l = (l.i ≤ l.l.pairs) × Linked (plan_of l.s) l.i l.skel l.index
+invariant-loop-i l = (l.i ≤ l.i-end) × Linked (plan_of l.sheet) l.i l.skeleton.skel l.skeleton.index
 
 abbrev pub decreases-loop-i : goal.decreases-loop-i
-decreases-loop-i l = l.l.pairs - l.i
+decreases-loop-i l = l.i-end - l.i

@@ -1,19 +1,10 @@
-use Rattle.std.proofs.Common.{arith, ap, ◌∙◌}
-use Rattle.summary.specs.Summary.{short_places, count_at}
-use Rattle.summary.proofs.Verdicts.{short_none, short_more, short_same}
+use Rattle.std.proofs.Common.{rules, tests, ltb, ◌∙◌}
+use Rattle.std.proofs.lemmas.Iterator.{YieldsList-from_slice}
+use Rattle.std.proofs.lemmas.Iterator.Consumers.{YieldsList-from_filter, count_from_yields_List}
+use Rattle.summary.proofs.Counts.{short_of}
 use Rattle.summary.proofs.short_places.Goals as goal
-use Rattle.summary.proofs.short_places.Goals.{then-row-p-gt0, else-row-p-gt0}
-
-pub loop-p-init : goal.loop-p-init
-loop-p-init c = omega (arith, short_none (count_at c.args.row.now))
-
-pub loop-p-preserved : goal.loop-p-preserved
-loop-p-preserved c =
-    let count = count_at c.args.row.now in
-    elim c.if-row-p-gt0.branch [
-      | then-row-p-gt0 w ↦ (omega arith, omega (arith, short_more count c.loop-p.p w.if-row-p-gt0.true), omega arith)
-      | else-row-p-gt0 w ↦ (omega arith, omega (arith, short_same count c.loop-p.p w.if-row-p-gt0.false), omega arith)
-    ]
 
 pub returns : goal.returns
-returns c = c.loop-p.invariant.1 ∙ ap (short_places _) (omega arith)
+returns c =
+    count_from_yields_List c.filter.result _ c.count.ensures.ran (YieldsList-from_filter _ (ltb 0) (YieldsList-from_slice c.args.counts.now (cc)) c.filter.ensures.closure (λ x r q k. search (rules, tests)))
+    ∙ short_of _

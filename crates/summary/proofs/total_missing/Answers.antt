@@ -1,17 +1,12 @@
-use Rattle.std.proofs.Common.{arith, ap, ◌∙◌}
-use Rattle.summary.specs.Summary.{total_missing, count_at}
-use Rattle.summary.proofs.Verdicts.{total_none, total_more}
+use Rattle.std.proofs.Common.{◌∙◌}
+use Rattle.std.proofs.lemmas.Iterator.{YieldsList-from_slice}
+use Rattle.std.proofs.lemmas.Iterator.Consumers.{sum_from_yields_List, fits_from_yields_list}
+use Rattle.summary.proofs.Counts.{total_of, total_fits}
 use Rattle.summary.proofs.total_missing.Goals as goal
 
-pub loop-p-init : goal.loop-p-init
-loop-p-init c = omega (arith, total_none (count_at c.args.row.now))
-
-pub overflow_add-total : goal.overflow_add-total
-overflow_add-total c = omega (arith, c.requires.0.few, c.requires.0.most c.loop-p.p (omega arith))
-
-pub loop-p-preserved : goal.loop-p-preserved
-loop-p-preserved c =
-    omega (arith, total_more (count_at c.args.row.now) c.loop-p.p, c.requires.0.most c.loop-p.p (omega arith))
+pub sum-requires-clause-fits : goal.sum-requires-clause-fits
+sum-requires-clause-fits c =
+    fits_from_yields_list c.iter.result _ (YieldsList-from_slice c.args.counts.now c.iter.ensures.rest) (total_fits _ c.requires)
 
 pub returns : goal.returns
-returns c = c.loop-p.invariant.1 ∙ ap (total_missing _) (omega arith)
+returns c = sum_from_yields_List c.iter.result _ c.sum.ensures.ran (YieldsList-from_slice c.args.counts.now c.iter.ensures.rest) ∙ total_of _

@@ -1,4 +1,4 @@
-use Rattle.std.proofs.Common.{◌-◌, arith, sym, rules}
+use Rattle.std.proofs.Common.{arith, refl, sym, rules}
 use Rattle.finite.specs.Search.{search_start}
 use Rattle.sheet.specs.Faults.{over_weight_at, over_weight_in}
 use Rattle.weights.proofs.Found.{place_more, all_seen}
@@ -12,4 +12,4 @@ loop-p-preserved c = (search rules, place_more _ _ _ _ _ _ c.loop-p.invariant.1 
 
 pub returns : goal.returns
 unfolding over_weight_in
-returns c = all_seen _ _ (over_weight_at _ _) _ c.requires.laid_by.1.places c.loop-p.invariant.0 (omega arith) c.loop-p.invariant.1
+returns c = all_seen _ _ (over_weight_at _ _) _ refl c.loop-p.invariant.0 (omega arith) c.loop-p.invariant.1

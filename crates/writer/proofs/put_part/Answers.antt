@@ -1,19 +1,14 @@
-use Rattle.std.proofs.Common.{◌+◌, ◌-◌, arith, ◌∙◌, rules}
-use Rattle.writer.proofs.Copying.{copied_start, copied_more, copied_done}
+use Rattle.std.proofs.Common.{ℕ, List, ◌+◌, ◌-◌, ◌≡◌, ◌≤◌, arith, ap, sym, ◌∙◌, take, drop}
+use Rattle.std.proofs.lemmas.List.{drop-take}
+use Rattle.std.proofs.Math.Seq.{slice, length-slice}
+use Rattle.text.specs.Put.{put_says}
 use Rattle.writer.proofs.put_part.Goals as goal
 
-pub loop-i-init : goal.loop-i-init
-loop-i-init c = (search rules, search rules, copied_start _ _ _ _ (omega arith) _ (omega arith))
+part : (s : List ℕ) (from to : ℕ) → from ≤ to → take (to - from) (drop from s) ≡ slice from to s
+part s from to l =
+    let end : from + (to - from) ≡ to = omega arith in sym (drop-take from (to - from) s) ∙ ap (λ (k : ℕ). drop from (take k s)) end
 
-pub loop-i-preserved : goal.loop-i-preserved
-loop-i-preserved c = (
-  search rules,
-  search rules,
-  copied_more _ _ _ _ _ _ _ _ c.loop-i.invariant.0 (omega arith) (omega arith) (c.low.ensures ∙ c.byte.ensures.0) (omega arith) c.loop-i.invariant.2 _ (omega arith),
-)
-
-pub returns : goal.returns
-returns c =
-    let held = c.loop-i.invariant in
-    let end = c.args.at + (c.args.to - c.args.from) in
-    let all = copied_done _ _ _ _ _ _ _ _ held.1 (omega arith) end (omega arith) held.2 in record { put = (all.put, omega arith); bytes = all.bytes }
+pub returns-clause-put : goal.returns-clause-put
+returns-clause-put c =
+    let put = put_says c.put_word.ensures (slice c.args.from c.args.to c.args.s.now) (part _ _ _ c.requires.0) in
+    (put, omega (arith, put.ends, length-slice c.args.from c.args.to c.args.s.now (omega arith)))
