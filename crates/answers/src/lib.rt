@@ -73,10 +73,7 @@ pub fn tell_place(answer: Result<i32, Fault>, item: &mut u32, spare: &mut i32) -
 pub fn tell_check(answer: Result<bool, Fault>, item: &mut u32, valid: &mut u32) -> u32
     ensures { CheckTold (saysValue answer) result item.new valid.new }
 {
-    *valid = match answer {
-        Ok(true) => 1,
-        _ => 0,
-    };
+    *valid = u32::from(answer.unwrap_or(false));
     tell_fault(answer, item)
 }
 
