@@ -13,7 +13,7 @@ use sheet::Fault;
 
 // 12: the place number isn't in the net.
 pub fn find_place(sheet: &Reader, p: Place) -> Result<(), Fault>
-    ensures { told_by result ≡ tell 12 (plain (leb (places_of sheet.now) p.0)) }
+    ensures { told_by result ≡ tell 12 (plain (leb (places_of sheet.now.bytes.now) p.0)) }
 {
     if sheet.places() <= p.0 {
         return Err(Fault::NoPlace);

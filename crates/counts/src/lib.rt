@@ -12,9 +12,9 @@ use reader::Reader;
 
 // The opening count of a place and what all events give to it.
 pub fn gained(sheet: &Reader, p: Place) -> u32
-    requires faultless { Faultless sheet.now }
-    requires known { p.0 < places_of sheet.now }
-    ensures { result ≡ gained_at sheet.now p.0 }
+    requires faultless { Faultless sheet.now.bytes.now }
+    requires known { p.0 < places_of sheet.now.bytes.now }
+    ensures { result ≡ gained_at sheet.now.bytes.now p.0 }
 {
     let mut sum = sheet.opening(p);
     for v in 0..sheet.events() {
@@ -25,9 +25,9 @@ pub fn gained(sheet: &Reader, p: Place) -> u32
 
 // What all events take from a place.
 pub fn lost(sheet: &Reader, p: Place) -> u32
-    requires faultless { Faultless sheet.now }
-    requires known { p.0 < places_of sheet.now }
-    ensures { result ≡ lost_at sheet.now p.0 }
+    requires faultless { Faultless sheet.now.bytes.now }
+    requires known { p.0 < places_of sheet.now.bytes.now }
+    ensures { result ≡ lost_at sheet.now.bytes.now p.0 }
 {
     let mut sum: u32 = 0;
     for v in 0..sheet.events() {

@@ -9,6 +9,7 @@ ghost use Rattle.tokenflow.specs.Flowing.{Flowing};
 ghost use Rattle.drawing.specs.Moves.{Moved};
 ghost use Rattle.exchange.specs.Exchange.{Exchanged};
 ghost use Rattle.exchange.specs.Walk.{trail_rows, TakerPlace, NextGiver, TellsGiver, Stepped, Walked};
+ghost use Rattle.tokenflow.specs.Lent.{rows_in};
 
 use drawing::draw_most;
 use ids::{Event, ROWS};
@@ -17,10 +18,10 @@ use tokenflow::Flow;
 
 // u feeds w in place of v, by all the tokens that u has free and v feeds. Returns how many.
 pub fn exchange(pred: &[u32; ROWS], flow: &mut Flow, u: Event, w: Event, v: Event, n: usize) -> u32
-    requires holds { Flowing n pred.now flow.old }
+    requires holds { Flowing n pred.now (rows_in flow.old) }
     requires u_lt_n { (u.0 < n) × (w.0 < n) × (v.0 < n) }
-    requires t { T (marked pred.now w.0 u.0) × T (marked flow.old.fed v.0 w.0) }
-    ensures { Exchanged n pred.now flow.old flow.new u.0 w.0 v.0 result }
+    requires t { T (marked pred.now w.0 u.0) × T (marked flow.old.fed.now v.0 w.0) }
+    ensures { Exchanged n pred.now (rows_in flow.old) (rows_in flow.new) u.0 w.0 v.0 result }
 {
     let k = flow.free(u).min(flow.amount(v, w));
     if k > 0 {
@@ -47,7 +48,7 @@ fn taker_place(pred: &[u32; ROWS], trail: &Trail, u: Event, n: usize) -> Option<
 // The origin of the place `at`, if it feeds the taker w there and was met by way of an earlier place.
 fn next_giver(trail: &Trail, flow: &Flow, at: usize, w: Event, n: usize) -> Option<Event>
     requires { (at < most_events) × (w.0 < n) × (n ≤ most_events) }
-    ensures { TellsGiver (NextGiver n trail.now.origin trail.now.via flow.now.fed at w.0) result }
+    ensures { TellsGiver (NextGiver n trail.now.origin trail.now.via flow.now.fed.now at w.0) result }
 {
     let v = Event(trail.origin[at]);
     if v.0 < n && trail.via[v.0] < at && flow.feeds(v, w) {
@@ -68,10 +69,10 @@ pub enum Step {
 
 // One step of a walk from the giver u.
 fn walk_step(pred: &[u32; ROWS], trail: &Trail, flow: &mut Flow, u: Event, n: usize) -> Step
-    requires holds { Flowing n pred.now flow.old }
+    requires holds { Flowing n pred.now (rows_in flow.old) }
     requires u_lt_n { u.0 < n }
-    ensures moves { Moved n pred.now flow.old flow.new }
-    ensures stepped { Stepped n pred.now (trail_rows trail.now.queue trail.now.origin trail.now.via) flow.old flow.new u.0 result }
+    ensures moves { Moved n pred.now (rows_in flow.old) (rows_in flow.new) }
+    ensures stepped { Stepped n pred.now (trail_rows trail.now.queue trail.now.origin trail.now.via) (rows_in flow.old) (rows_in flow.new) u.0 result }
 {
     if flow.free(u) == 0 {
         return Step::Stuck;
@@ -93,10 +94,10 @@ fn walk_step(pred: &[u32; ROWS], trail: &Trail, flow: &mut Flow, u: Event, n: us
 
 // Walks from the giver u along the trail until a taker that lacks tokens draws some. Returns whether one did.
 pub fn walk(pred: &[u32; ROWS], trail: &Trail, flow: &mut Flow, u: Event, n: usize) -> bool
-    requires holds { Flowing n pred.now flow.old }
+    requires holds { Flowing n pred.now (rows_in flow.old) }
     requires u_lt_n { u.0 < n }
-    ensures moves { Moved n pred.now flow.old flow.new }
-    ensures walked { Walked n pred.now (trail_rows trail.now.queue trail.now.origin trail.now.via) flow.old flow.new u.0 result }
+    ensures moves { Moved n pred.now (rows_in flow.old) (rows_in flow.new) }
+    ensures walked { Walked n pred.now (trail_rows trail.now.queue trail.now.origin trail.now.via) (rows_in flow.old) (rows_in flow.new) u.0 result }
 {
     let mut giver = u;
     loop {

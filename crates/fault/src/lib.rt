@@ -16,10 +16,10 @@ use sheet::Fault;
 
 // The first of faults 5 to 11. The layout has no fault.
 fn content_fault(sheet: &Reader, wanted: Wanted, order: &mut Order) -> Result<(), Fault>
-    requires laid { Laid sheet.now }
+    requires laid { Laid sheet.now.bytes.now }
     requires blank { Blank order.old.succ × Blank order.old.pred }
-    ensures fault { told_by result ≡ first_fault content_faults sheet.now }
-    ensures rows { IfOk result (λ _. WantedRows wanted (plan_of sheet.now) order.new.succ order.new.pred) }
+    ensures fault { told_by result ≡ first_fault content_faults sheet.now.bytes.now }
+    ensures rows { IfOk result (λ _. WantedRows wanted (plan_of sheet.now.bytes.now) order.new.succ order.new.pred) }
 {
     number_fault(sheet)?;
     no_event(sheet)?;
@@ -32,7 +32,7 @@ fn content_fault(sheet: &Reader, wanted: Wanted, order: &mut Order) -> Result<()
 pub fn examine<'a>(s: &'a [u8], wanted: Wanted, order: &mut Order) -> Result<Reader<'a>, Fault>
     requires { Blank order.old.succ × Blank order.old.pred }
     ensures fault { told_by result ≡ fault_of s.now }
-    ensures found { IfOk result (λ r. (r ≡ s.now) × Faultless s.now × WantedRows wanted (plan_of s.now) order.new.succ order.new.pred) }
+    ensures found { IfOk result (λ r. (r.bytes.now ≡ s.now) × Faultless s.now × WantedRows wanted (plan_of s.now) order.new.succ order.new.pred) }
 {
     let sheet = read_laid(s)?;
     content_fault(&sheet, wanted, order)?;

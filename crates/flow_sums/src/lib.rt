@@ -57,12 +57,12 @@ fn may_carry(order: &Order, a: Event, b: Event, x: u32) -> bool
 // Rule 4. Where it holds, `carried` is what the pairs carry into each event and out of it.
 #[tactic(auto, using(crate::proofs::Pairs::within))]
 pub fn add_pairs(sheet: &Reader, order: &Order, row: &[u32], carried: &mut Carried) -> bool
-    requires faultless { Faultless sheet.now }
-    requires order_rows { OrderRows (plan_of sheet.now) order.now.succ order.now.pred }
-    requires pairs_in_bounds { pairs_of sheet.now ≤ length row.now }
+    requires faultless { Faultless sheet.now.bytes.now }
+    requires order_rows { OrderRows (plan_of sheet.now.bytes.now) order.now.succ order.now.pred }
+    requires pairs_in_bounds { pairs_of sheet.now.bytes.now ≤ length row.now }
     requires blank { (carried.old.into ≡ replicate most_events 0) × (carried.old.out ≡ replicate most_events 0) }
-    ensures value { result ≡ rule4 (plan_of sheet.now) (flow_of row.now) }
-    ensures pair_sums { result ≡ true → PairSums (plan_of sheet.now) (flow_of row.now) (pairs_of sheet.now) carried.new.into carried.new.out }
+    ensures value { result ≡ rule4 (plan_of sheet.now.bytes.now) (flow_of row.now) }
+    ensures pair_sums { result ≡ true → PairSums (plan_of sheet.now.bytes.now) (flow_of row.now) (pairs_of sheet.now.bytes.now) carried.new.into carried.new.out }
 {
     for i in 0..sheet.pairs() {
         let a = sheet.earlier(i);

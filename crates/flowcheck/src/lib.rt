@@ -25,11 +25,11 @@ mod rules; // rules.rt: the rules at one event and for the sum of the shares
 
 // Rules 1 and 2 at event v.
 fn event_keeps(sheet: &Reader, p: Place, row: &[u32], carried: &Carried, v: Event) -> bool
-    requires faultless { Faultless sheet.now }
-    requires known { (p.0 < places_of sheet.now) × (v.0 < events_of sheet.now) }
-    requires room { flow_length sheet.now ≤ length row.now }
-    requires pair_sums { PairSums (plan_of sheet.now) (flow_of row.now) (pairs_of sheet.now) carried.now.into carried.now.out }
-    ensures { result ≡ kept_at (net_of sheet.now) (plan_of sheet.now) p.0 (flow_of row.now) v.0 }
+    requires faultless { Faultless sheet.now.bytes.now }
+    requires known { (p.0 < places_of sheet.now.bytes.now) × (v.0 < events_of sheet.now.bytes.now) }
+    requires room { flow_length sheet.now.bytes.now ≤ length row.now }
+    requires pair_sums { PairSums (plan_of sheet.now.bytes.now) (flow_of row.now) (pairs_of sheet.now.bytes.now) carried.now.into carried.now.out }
+    ensures { result ≡ kept_at (net_of sheet.now.bytes.now) (plan_of sheet.now.bytes.now) p.0 (flow_of row.now) v.0 }
 {
     let t = sheet.label(v);
     let arrived = u64::from(row[sheet.pairs() + v.0]) + carried.into[v.0];
@@ -43,11 +43,11 @@ fn event_keeps(sheet: &Reader, p: Place, row: &[u32], carried: &Carried, v: Even
 
 // Rules 1 and 2.
 fn is_balanced(sheet: &Reader, p: Place, row: &[u32], carried: &Carried) -> bool
-    requires faultless { Faultless sheet.now }
-    requires known { p.0 < places_of sheet.now }
-    requires room { flow_length sheet.now ≤ length row.now }
-    requires pair_sums { PairSums (plan_of sheet.now) (flow_of row.now) (pairs_of sheet.now) carried.now.into carried.now.out }
-    ensures { result ≡ balanced (net_of sheet.now) (plan_of sheet.now) p.0 (flow_of row.now) }
+    requires faultless { Faultless sheet.now.bytes.now }
+    requires known { p.0 < places_of sheet.now.bytes.now }
+    requires room { flow_length sheet.now.bytes.now ≤ length row.now }
+    requires pair_sums { PairSums (plan_of sheet.now.bytes.now) (flow_of row.now) (pairs_of sheet.now.bytes.now) carried.now.into carried.now.out }
+    ensures { result ≡ balanced (net_of sheet.now.bytes.now) (plan_of sheet.now.bytes.now) p.0 (flow_of row.now) }
 {
     // With `all` on the range the proof didn't close: std has no lemma on `all` over a range.
     for v in 0..sheet.events() {
@@ -60,11 +60,11 @@ fn is_balanced(sheet: &Reader, p: Place, row: &[u32], carried: &Carried) -> bool
 
 // Whether all four rules hold. The order of the plan is handed in, so that it is worked out once.
 fn is_valid(sheet: &Reader, p: Place, row: &[u32], order: &Order) -> bool
-    requires faultless { Faultless sheet.now }
-    requires known { p.0 < places_of sheet.now }
-    requires room { flow_length sheet.now ≤ length row.now }
-    requires order_rows { OrderRows (plan_of sheet.now) order.now.succ order.now.pred }
-    ensures { result ≡ valid (net_of sheet.now) (plan_of sheet.now) p.0 (flow_of row.now) }
+    requires faultless { Faultless sheet.now.bytes.now }
+    requires known { p.0 < places_of sheet.now.bytes.now }
+    requires room { flow_length sheet.now.bytes.now ≤ length row.now }
+    requires order_rows { OrderRows (plan_of sheet.now.bytes.now) order.now.succ order.now.pred }
+    ensures { result ≡ valid (net_of sheet.now.bytes.now) (plan_of sheet.now.bytes.now) p.0 (flow_of row.now) }
 {
     let mut carried = Carried::blank();
     if !add_pairs(sheet, order, row, &mut carried) {

@@ -68,8 +68,8 @@ fn fold_giver(
     n: usize,
 )
     requires u_lt_n { (u.0 < n) × (n ≤ most_events) }
-    requires may_fold_giver { MayFoldGiver n u.0 succ.now skeleton.now.skel skeleton.now.index flow.now.amount flow.now.fed row.old }
-    ensures { GiverFolded n u.0 succ.now skeleton.now.skel skeleton.now.index flow.now.amount flow.now.fed row.old row.new }
+    requires may_fold_giver { MayFoldGiver n u.0 succ.now skeleton.now.skel skeleton.now.index flow.now.amount.now flow.now.fed.now row.old }
+    ensures { GiverFolded n u.0 succ.now skeleton.now.skel skeleton.now.index flow.now.amount.now flow.now.fed.now row.old row.new }
 {
     // By number, since the number is the event.
     for w in 0..n {
@@ -83,9 +83,9 @@ fn fold_giver(
 // Folds what each giver gives, from a row of zeros.
 fn fold_givers(succ: &[u32; ROWS], skeleton: &Skeleton, flow: &Flow, row: &mut [u32], n: usize)
     requires n_le_most_events { n ≤ most_events }
-    requires may_fold { MayFold n (length row.old) succ.now skeleton.now.skel skeleton.now.index flow.now.amount flow.now.fed }
+    requires may_fold { MayFold n (length row.old) succ.now skeleton.now.skel skeleton.now.index flow.now.amount.now flow.now.fed.now }
     requires zeros { Zeros row.old }
-    ensures { AllFolded n (length row.old) succ.now skeleton.now.skel skeleton.now.index flow.now.amount flow.now.fed row.new }
+    ensures { AllFolded n (length row.old) succ.now skeleton.now.skel skeleton.now.index flow.now.amount.now flow.now.fed.now row.new }
 {
     for u in 0..n {
         fold_giver(succ, skeleton, flow, row, Event(u), n);
@@ -94,8 +94,8 @@ fn fold_givers(succ: &[u32; ROWS], skeleton: &Skeleton, flow: &Flow, row: &mut [
 
 // Folds a tokenflow onto the skeleton pairs: the row, one number for each pair, is written whole.
 fn fold(succ: &[u32; ROWS], skeleton: &Skeleton, flow: &Flow, row: &mut [u32], n: usize)
-    requires { MayFold n (length row.old) succ.now skeleton.now.skel skeleton.now.index flow.now.amount flow.now.fed }
-    ensures { AllFolded n (length row.old) succ.now skeleton.now.skel skeleton.now.index flow.now.amount flow.now.fed row.new }
+    requires { MayFold n (length row.old) succ.now skeleton.now.skel skeleton.now.index flow.now.amount.now flow.now.fed.now }
+    ensures { AllFolded n (length row.old) succ.now skeleton.now.skel skeleton.now.index flow.now.amount.now flow.now.fed.now row.new }
 {
     row.fill(0);
     fold_givers(succ, skeleton, flow, row, n);
@@ -110,10 +110,10 @@ pub fn write_flow(
     pairs: usize,
     n: usize,
 )
-    requires may_fold { MayFold n pairs succ.now skeleton.now.skel skeleton.now.index flow.now.amount flow.now.fed }
+    requires may_fold { MayFold n pairs succ.now skeleton.now.skel skeleton.now.index flow.now.amount.now flow.now.fed.now }
     requires n_in_bounds { pairs + n ≤ length row.old }
-    ensures all_folded { AllFolded n pairs succ.now skeleton.now.skel skeleton.now.index flow.now.amount flow.now.fed row.new }
-    ensures shares_from { SharesFrom pairs row.old row.new flow.now.share n }
+    ensures all_folded { AllFolded n pairs succ.now skeleton.now.skel skeleton.now.index flow.now.amount.now flow.now.fed.now row.new }
+    ensures shares_from { SharesFrom pairs row.old row.new flow.now.share.now n }
 {
     fold(succ, skeleton, flow, &mut row[..pairs], n);
     write_shares(&mut row[pairs..], flow.share, n);

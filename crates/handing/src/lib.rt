@@ -23,13 +23,13 @@ use tokenflow::Flow;
 
 // Writes the tokenflow of a place that lacks nothing as a flow row, by way of the skeleton pairs.
 fn hand_over(sheet: &Reader, p: Place, order: &Order, flow: &Flow, row: &mut [u32])
-    requires faultless { Faultless sheet.now }
-    requires known { p.0 < places_of sheet.now }
-    requires order_rows { OrderRows (plan_of sheet.now) order.now.succ order.now.pred }
-    requires shown_by { ShownBy sheet.now p order.now.pred flow.now.amount flow.now.fed flow.now.share 0 }
-    requires room { flow_length sheet.now ≤ length row.old }
-    ensures t { T (valid_at sheet.now p.0 row.new) }
-    ensures shares_from { SharesFrom (pairs_of sheet.now) row.old row.new flow.now.share (events_of sheet.now) }
+    requires faultless { Faultless sheet.now.bytes.now }
+    requires known { p.0 < places_of sheet.now.bytes.now }
+    requires order_rows { OrderRows (plan_of sheet.now.bytes.now) order.now.succ order.now.pred }
+    requires shown_by { ShownBy sheet.now.bytes.now p order.now.pred flow.now.amount.now flow.now.fed.now flow.now.share.now 0 }
+    requires room { flow_length sheet.now.bytes.now ≤ length row.old }
+    ensures t { T (valid_at sheet.now.bytes.now p.0 row.new) }
+    ensures shares_from { SharesFrom (pairs_of sheet.now.bytes.now) row.old row.new flow.now.share.now (events_of sheet.now.bytes.now) }
 {
     let mut skeleton = Skeleton::blank();
     index_pairs(sheet, order, &mut skeleton);
@@ -40,12 +40,12 @@ fn hand_over(sheet: &Reader, p: Place, order: &Order, flow: &Flow, row: &mut [u3
 
 // Writes the flow row of a judged place: a valid flow if none of its tokens are missing, else zeros.
 pub fn hand_flow(sheet: &Reader, p: Place, order: &Order, flow: &Flow, m: u32, row: &mut [u32])
-    requires faultless { Faultless sheet.now }
-    requires known { p.0 < places_of sheet.now }
-    requires order_rows { OrderRows (plan_of sheet.now) order.now.succ order.now.pred }
-    requires shown_by { ShownBy sheet.now p order.now.pred flow.now.amount flow.now.fed flow.now.share m }
-    requires room { flow_length sheet.now ≤ length row.old }
-    ensures { Written sheet.now p.0 row.old row.new }
+    requires faultless { Faultless sheet.now.bytes.now }
+    requires known { p.0 < places_of sheet.now.bytes.now }
+    requires order_rows { OrderRows (plan_of sheet.now.bytes.now) order.now.succ order.now.pred }
+    requires shown_by { ShownBy sheet.now.bytes.now p order.now.pred flow.now.amount.now flow.now.fed.now flow.now.share.now m }
+    requires room { flow_length sheet.now.bytes.now ≤ length row.old }
+    ensures { Written sheet.now.bytes.now p.0 row.old row.new }
 {
     if m == 0 {
         hand_over(sheet, p, order, flow, row);
@@ -65,9 +65,9 @@ pub fn judge_in(
     flow: &mut [u32],
     marks: &mut [u8],
 ) -> i32
-    requires judgeable { Judgeable sheet.now p order.now.succ order.now.pred flow.old marks.old }
-    requires amounts { events_of sheet.now * most_events ≤ length amount.old }
-    ensures { JudgedBy sheet.now p flow.old flow.new marks.old marks.new result }
+    requires judgeable { Judgeable sheet.now.bytes.now p order.now.succ order.now.pred flow.old marks.old }
+    requires amounts { events_of sheet.now.bytes.now * most_events ≤ length amount.old }
+    ensures { JudgedBy sheet.now.bytes.now p flow.old flow.new marks.old marks.new result }
 {
     let mut fed = [0u32; ROWS];
     let mut free = [0u32; EVENTS];

@@ -21,8 +21,8 @@ pub const WEIGHT: u32 = 1000;
 
 // 5: opening count above 1,000,000; the item is the place.
 pub fn over_opening(sheet: &Reader) -> Result<(), Fault>
-    requires { Laid sheet.now }
-    ensures { told_by result ≡ tell 5 (over_opening sheet.now) }
+    requires { Laid sheet.now.bytes.now }
+    ensures { told_by result ≡ tell 5 (over_opening sheet.now.bytes.now) }
 {
     for p in 0..sheet.places() {
         if sheet.opening(Place(p)) > OPENING {
@@ -34,9 +34,9 @@ pub fn over_opening(sheet: &Reader) -> Result<(), Fault>
 
 // 6: weight above 1,000, at one transition.
 fn over_weight_in(sheet: &Reader, t: Transition) -> bool
-    requires laid { Laid sheet.now }
-    requires known { t.0 < transitions_of sheet.now }
-    ensures { result ≡ over_weight_in sheet.now t.0 }
+    requires laid { Laid sheet.now.bytes.now }
+    requires known { t.0 < transitions_of sheet.now.bytes.now }
+    ensures { result ≡ over_weight_in sheet.now.bytes.now t.0 }
 {
     for p in 0..sheet.places() {
         if sheet.takes(t, Place(p)) > WEIGHT {
@@ -51,8 +51,8 @@ fn over_weight_in(sheet: &Reader, t: Transition) -> bool
 
 // 6: weight above 1,000; the item is the transition.
 fn over_weight(sheet: &Reader) -> Result<(), Fault>
-    requires { Laid sheet.now }
-    ensures { told_by result ≡ tell 6 (over_weight sheet.now) }
+    requires { Laid sheet.now.bytes.now }
+    ensures { told_by result ≡ tell 6 (over_weight sheet.now.bytes.now) }
 {
     for t in 0..sheet.transitions() {
         if over_weight_in(sheet, Transition(t)) {
@@ -64,8 +64,8 @@ fn over_weight(sheet: &Reader) -> Result<(), Fault>
 
 // 7: event names no transition; the item is the event.
 pub fn no_transition(sheet: &Reader) -> Result<(), Fault>
-    requires { Laid sheet.now }
-    ensures { told_by result ≡ tell 7 (no_transition sheet.now) }
+    requires { Laid sheet.now.bytes.now }
+    ensures { told_by result ≡ tell 7 (no_transition sheet.now.bytes.now) }
 {
     for v in 0..sheet.events() {
         let t = sheet.label(Event(v));
@@ -78,8 +78,8 @@ pub fn no_transition(sheet: &Reader) -> Result<(), Fault>
 
 // The first of faults 5, 6 and 7: those of the numbers that stand before the pairs.
 pub fn number_fault(sheet: &Reader) -> Result<(), Fault>
-    requires { Laid sheet.now }
-    ensures { told_by result ≡ first_fault number_faults sheet.now }
+    requires { Laid sheet.now.bytes.now }
+    ensures { told_by result ≡ first_fault number_faults sheet.now.bytes.now }
 {
     over_opening(sheet)?;
     over_weight(sheet)?;
@@ -88,8 +88,8 @@ pub fn number_fault(sheet: &Reader) -> Result<(), Fault>
 
 // 8: pair names no event; the item is the pair.
 pub fn no_event(sheet: &Reader) -> Result<(), Fault>
-    requires { Laid sheet.now }
-    ensures { told_by result ≡ tell 8 (no_event sheet.now) }
+    requires { Laid sheet.now.bytes.now }
+    ensures { told_by result ≡ tell 8 (no_event sheet.now.bytes.now) }
 {
     for i in 0..sheet.pairs() {
         let u = sheet.earlier(i);
@@ -106,8 +106,8 @@ pub fn no_event(sheet: &Reader) -> Result<(), Fault>
 
 // 9: pair of an event with itself; the item is the pair.
 pub fn self_pair(sheet: &Reader) -> Result<(), Fault>
-    requires { Laid sheet.now }
-    ensures { told_by result ≡ tell 9 (self_pair sheet.now) }
+    requires { Laid sheet.now.bytes.now }
+    ensures { told_by result ≡ tell 9 (self_pair sheet.now.bytes.now) }
 {
     for i in 0..sheet.pairs() {
         if sheet.earlier(i) == sheet.later(i) {

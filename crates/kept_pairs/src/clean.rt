@@ -32,10 +32,10 @@ fn put_kept(kept: &KeptPairs, clean: &mut [u8], at: usize) -> usize
 
 // The table to match, what stands before the pairs as it was, and the kept pairs.
 pub fn put_clean(sheet: &Reader, kept: &KeptPairs, clean: &mut [u8]) -> usize
-    requires laid { Laid sheet.now }
-    requires kept_of { KeptOf sheet.now kept.now }
-    requires room { length sheet.now ≤ length clean.old }
-    ensures { Put clean.old clean.new 0 (clean_of sheet.now) result }
+    requires laid { Laid sheet.now.bytes.now }
+    requires kept_of { KeptOf sheet.now.bytes.now kept.now }
+    requires room { length sheet.now.bytes.now ≤ length clean.old }
+    ensures { Put clean.old clean.new 0 (clean_of sheet.now.bytes.now) result }
 {
     let l = sheet.layout();
     let table = put_table(

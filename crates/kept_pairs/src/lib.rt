@@ -19,10 +19,10 @@ use sorting::Pairs;
 
 // The reasons of the pairs, and those that are kept. 11: they have a cycle.
 pub fn examine_pairs(sheet: &Reader, reasons: &mut [u8], kept: &mut KeptPairs) -> Result<(), Fault>
-    requires laid { Laid sheet.now }
+    requires laid { Laid sheet.now.bytes.now }
     requires most_pairs_in_bounds { most_pairs ≤ length reasons.old }
-    ensures fault { told_by result ≡ tell 11 (plain (kept_cycle sheet.now)) }
-    ensures pairs_known { PairsKnown sheet.now reasons.old reasons.new kept.new }
+    ensures fault { told_by result ≡ tell 11 (plain (kept_cycle sheet.now.bytes.now)) }
+    ensures pairs_known { PairsKnown sheet.now.bytes.now reasons.old reasons.new kept.new }
 {
     give_reasons(sheet, reasons, kept);
     let pairs = Pairs {

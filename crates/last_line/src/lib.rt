@@ -18,7 +18,7 @@ use text::Output;
 
 // An event that is done, after a space.
 fn put_event(out: &mut Output, done: &[u32; WORDS], v: Event)
-    requires { (v.0 < most_events) × (out.old.at + event_room ≤ length out.old.row) }
+    requires { (v.0 < most_events) × (out.old.at + event_room ≤ length out.old.row.now) }
     ensures written { Written out.old (event_in (members done.now) v.0) out.new }
     ensures room { out.new.at ≤ out.old.at + event_room }
 {
@@ -29,7 +29,7 @@ fn put_event(out: &mut Output, done: &[u32; WORDS], v: Event)
 
 // The events that are done, each after a space.
 fn put_events(out: &mut Output, done: &[u32; WORDS], n: usize)
-    requires { (n ≤ most_events) × (out.old.at + events_room ≤ length out.old.row) }
+    requires { (n ≤ most_events) × (out.old.at + events_room ≤ length out.old.row.now) }
     ensures written { Written out.old (each n (event_in (members done.now))) out.new }
     ensures room { out.new.at ≤ out.old.at + events_room }
 {
@@ -40,7 +40,7 @@ fn put_events(out: &mut Output, done: &[u32; WORDS], n: usize)
 
 // The events that are done, or `none`.
 fn put_done(out: &mut Output, done: &[u32; WORDS], n: usize)
-    requires { (n ≤ most_events) × (out.old.at + events_room ≤ length out.old.row) }
+    requires { (n ≤ most_events) × (out.old.at + events_room ≤ length out.old.row.now) }
     ensures written { Written out.old (done_events n (members done.now)) out.new }
     ensures room { out.new.at ≤ out.old.at + events_room }
 {
@@ -53,7 +53,7 @@ fn put_done(out: &mut Output, done: &[u32; WORDS], n: usize)
 
 // The first short place and its done events.
 fn put_first(out: &mut Output, p: Place, done: &[u32; WORDS], n: usize)
-    requires { (p.0 < most_places) × (n ≤ most_events) × (out.old.at + first_room ≤ length out.old.row) }
+    requires { (p.0 < most_places) × (n ≤ most_events) × (out.old.at + first_room ≤ length out.old.row.now) }
     ensures { Written out.old (first_line p.0 n (members done.now)) out.new }
 {
     out.field(b"first ", p.0 as u32);
@@ -65,7 +65,7 @@ fn put_first(out: &mut Output, p: Place, done: &[u32; WORDS], n: usize)
 // The last line, by the verdict and the done set of the first short place.
 pub fn put_verdict(out: &mut Output, v: Verdict, done: &[u32; WORDS], n: usize)
     requires v_bound { verdict_number v < 1000 + most_places }
-    requires n_le_most_events { (n ≤ most_events) × (out.old.at + first_room ≤ length out.old.row) }
+    requires n_le_most_events { (n ≤ most_events) × (out.old.at + first_room ≤ length out.old.row.now) }
     ensures { Written out.old (last_line v n (members done.now)) out.new }
 {
     match v {

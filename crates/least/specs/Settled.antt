@@ -16,7 +16,7 @@ use Rattle.theory.specs.Skeleton.{before_earlier}
 use Rattle.theory.specs.Missing.{missing_opening}
 use Rattle.theory.specs.Tokenflow.{Tokenflow, Settled, least_within, settled_least}
 use Rattle.theory.proofs.Tokenflow.{settled_smallest}
-use Rattle.tokenflow.specs.Rows.{fed_by, Rows}
+use Rattle.tokenflow.specs.Rows.{fed_by, Rows, rows}
 use Rattle.tokenflow.specs.Flowing.{Flowing, Kept, given_in, taken_in, lacking}
 use Rattle.drawing.specs.Moves.{Moved}
 use Rattle.search.specs.Row.{members}
@@ -37,6 +37,29 @@ pub record PlaceSettled (N : Net) (P : Plan) (p enough : ℕ) (pred : List ℕ) 
   pub least : least_opening N P p ≤ lacks
   pub exact : enough < lacks → least_opening N P p ≡ lacks
   pub set : enough < lacks → 0 < missing N P p → smallest N P p ≡ members givers
+
+-- So it is in rows of the same numbers, whichever rows these are.
+pub settled_rows : {N : Net} {P : Plan} {p enough : ℕ} {pred : List ℕ} {r : Rows} {givers : List ℕ} {lacks : ℕ}
+    → PlaceSettled N P p enough pred r givers lacks → PlaceSettled N P p enough pred (rows r.amount r.fed r.free r.share) givers lacks
+unfolding given_in taken_in lacking
+settled_rows s =
+    let f = s.flows in
+    record {
+      sum = s.sum;
+      flows = record {
+        events = f.events;
+        room = f.room;
+        exact = f.exact;
+        named = f.named;
+        ordered = f.ordered;
+        gives_fit = f.gives_fit;
+        takes_fit = f.takes_fit;
+      };
+      flow = s.flow;
+      least = s.least;
+      exact = s.exact;
+      set = s.set;
+    }
 
 -- so it is for every place that has these rows
 abbrev pub Settles : ℕ → List ℕ → Rows → Rows → List ℕ → ℕ → ℕ → Type 0

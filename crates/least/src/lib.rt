@@ -7,6 +7,7 @@ ghost use Rattle.finite.specs.Sum.{sum_of};
 ghost use Rattle.ids.specs.Limits.{most_events};
 ghost use Rattle.least.specs.PlaceRows.{RowsFor, Small, SomePlace, Unfed, UnfedFrom};
 ghost use Rattle.least.specs.Settled.{Settles};
+ghost use Rattle.tokenflow.specs.Lent.{rows_in};
 
 use drawing::draw_all;
 use ids::{EVENTS, ROWS, WORDS};
@@ -17,8 +18,8 @@ use tokenflow::Flow;
 // A line over the library's sum, with the bound that holds here; `settle` and `flow_sums` have theirs.
 fn total(flow: &Flow, n: usize) -> u32
     requires n_le_most_events { n ≤ most_events }
-    requires small { Small flow.now.share n }
-    ensures { result ≡ sum_of flow.now.share n }
+    requires small { Small flow.now.share.now n }
+    ensures { result ≡ sum_of flow.now.share.now n }
 {
     let share = &*flow.share;
     share[..n].iter().sum()
@@ -44,9 +45,10 @@ pub fn settle_rows(
     enough: u32,
     n: usize,
 ) -> u32
-    requires rows_for { RowsFor n flow.old.amount flow.old.fed }
-    requires some_place { SomePlace n pred.now flow.old.free flow.old.share }
-    ensures { Settles n pred.now flow.old flow.new givers.new enough result }
+    requires rows_for { RowsFor n flow.old.amount.now flow.old.fed.now }
+    requires some_place { SomePlace n pred.now flow.old.free.now flow.old.share.now }
+    ensures settles { Settles n pred.now (rows_in flow.old) (rows_in flow.new) givers.new enough result }
+    ensures same_rows { (rows_in flow.new).names ≡ (rows_in flow.old).names }
 {
     let mut sources = [u32::MAX; WORDS];
     clear(flow.fed, n);

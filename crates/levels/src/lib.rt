@@ -8,7 +8,7 @@ use ids::{EVENTS, Event, ROWS, WORDS};
 use search::Trail;
 
 // The words of two rows of marks for each level.
-const SETS: usize = 2 * ROWS;
+pub const SETS: usize = 2 * ROWS;
 
 // The last level that has rows.
 const LAST: usize = EVENTS - 1;
@@ -58,7 +58,8 @@ impl Levels {
     // Sets the level of each place of the queue. Returns that of the last, which is the deepest, since a search goes from level to level.
     pub fn set(&mut self, trail: &Trail, tail: usize) -> usize
         requires { tail ≤ most_events }
-        ensures { result < most_events }
+        ensures bound { result < most_events }
+        ensures sets_kept { self.new.sets ≡ self.old.sets }
     {
         let mut level: usize = 0;
         for at in 0..tail {
@@ -71,6 +72,7 @@ impl Levels {
     // Marks the giver u in its level's row if it has tokens free.
     pub fn mark_source(&mut self, free: &[u32; EVENTS], level: usize, u: Event)
         requires { (level < most_events) × (u.0 < most_events) }
+        ensures { self.new.of ≡ self.old.of }
     {
         if free[u.0] > 0 {
             marks::mark(&mut self.sets, level, u.0);
@@ -80,6 +82,7 @@ impl Levels {
     // Removes the mark of the giver u from its level's row if it has no tokens free.
     pub fn unmark_spent(&mut self, free: &[u32; EVENTS], level: usize, u: Event)
         requires { (level < most_events) × (u.0 < most_events) }
+        ensures { self.new.of ≡ self.old.of }
     {
         if free[u.0] == 0 {
             marks::unmark(&mut self.sets, level, u.0);
@@ -89,6 +92,7 @@ impl Levels {
     // Marks the giver u, if it was met by way of a place of the queue, in both rows of its level.
     fn mark_giver(&mut self, trail: &Trail, free: &[u32; EVENTS], u: Event)
         requires { u.0 < most_events }
+        ensures { self.new.of ≡ self.old.of }
     {
         let at = trail.via[u.0];
         if at >= EVENTS {
@@ -105,6 +109,7 @@ impl Levels {
     // Marks the givers that were met, by levels.
     pub fn mark_givers(&mut self, trail: &Trail, free: &[u32; EVENTS], n: usize)
         requires { n ≤ most_events }
+        ensures { self.new.of ≡ self.old.of }
     {
         for u in 0..n {
             self.mark_giver(trail, free, Event(u));

@@ -27,7 +27,7 @@ pub const FIRST_ROOM: usize = 22 + EVENTS_ROOM;
 pub const LISTING_ROOM: usize = PLAN_ROOM + PLACES_ROOM + TOTALS_ROOM + FIRST_ROOM;
 
 pub fn put_plan(out: &mut Output, events: u32, pairs: u32, free: u32)
-    requires { out.old.at + plan_room ≤ length out.old.row }
+    requires { out.old.at + plan_room ≤ length out.old.row.now }
     ensures written { Written out.old (plan_line events pairs free) out.new }
     ensures room { out.new.at ≤ out.old.at + plan_room }
 {
@@ -38,7 +38,7 @@ pub fn put_plan(out: &mut Output, events: u32, pairs: u32, free: u32)
 }
 
 pub fn put_totals(out: &mut Output, short: u32, total: u32)
-    requires { out.old.at + totals_room ≤ length out.old.row }
+    requires { out.old.at + totals_room ≤ length out.old.row.now }
     ensures written { Written out.old (totals_line short total) out.new }
     ensures room { out.new.at ≤ out.old.at + totals_room }
 {
@@ -48,7 +48,7 @@ pub fn put_totals(out: &mut Output, short: u32, total: u32)
 }
 
 pub fn put_refused(out: &mut Output, fault: u32)
-    requires { out.old.at + refused_room ≤ length out.old.row }
+    requires { out.old.at + refused_room ≤ length out.old.row.now }
     ensures { Written out.old (refused_line fault) out.new }
 {
     out.field(b"refused ", fault);

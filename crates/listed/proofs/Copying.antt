@@ -35,8 +35,12 @@ module _ (s row : List ℕ) {old new : List ℕ} {end : ℕ} (n : ℕ) (at : n �
     unfolding list_says
     written = rw size (said_ok (list_fault s row) (length (listing_of s)) (due none))
 
-    pub row_written : (text : List ℕ) → text ≡ take end new → text ++ drop n row ≡ row_after s row
+    pub row_written : (text copied : List ℕ) (stop : ℕ) → text ≡ take end new → Put row copied 0 text stop → copied ≡ row_after s row
     unfolding row_after
-    row_written text is =
-        rw (is ∙ put_front _ _ _ _ _ put, size)
-        (at_none (list_fault s row).number (listing_of s ++ drop (length (listing_of s)) row) row (ap (λ (t : Told). t.number) (sym (due none))))
+    row_written text copied stop is h =
+        let whole : text ≡ listing_of s = is ∙ put_front _ _ _ _ _ put in
+        let last : stop ≡ length (listing_of s) = omega (arith, h.ends, ap length whole) in
+        h.is
+        ∙ ap (λ (x : List ℕ). x ++ drop stop row) whole
+        ∙ ap (λ (k : ℕ). listing_of s ++ drop k row) last
+        ∙ at_none (list_fault s row).number (listing_of s ++ drop (length (listing_of s)) row) row (ap (λ (t : Told). t.number) (sym (due none)))

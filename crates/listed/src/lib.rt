@@ -14,11 +14,11 @@ use lines::{LISTING_ROOM, put_refused};
 use order::{Order, Wanted};
 use plan_lines::put_lines;
 use sheet::Fault;
-use text::Output;
+use text::{Output, put_word};
 
 // The listing of any bytes, where there is room for the longest.
 fn put_listing(out: &mut Output, s: &[u8])
-    requires { out.old.at + listing_room ≤ length out.old.row }
+    requires { out.old.at + listing_room ≤ length out.old.row.now }
     ensures { Written out.old (listing_of s.now) out.new }
 {
     let mut order = Order::blank();
@@ -43,6 +43,6 @@ pub fn write_listing(s: &[u8], row: &mut [u8]) -> Result<usize, Fault>
     let n = out.at;
     let listing = &*out.row;
     find_room(row.len(), n)?;
-    row[..n].copy_from_slice(&listing[..n]);
+    put_word(row, 0, &listing[..n]);
     Ok(n)
 }

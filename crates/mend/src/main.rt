@@ -24,7 +24,7 @@ const LINE: usize = 100;
 
 // Where standard error can't be written, nothing is left to be done.
 fn say(rt: &HostRuntime, out: &Output)
-    requires { out.now.at ≤ length out.now.row }
+    requires { out.now.at ≤ length out.now.row.now }
 {
     let row = &*out.row;
     let _ = rt.stderr().write_all(&row[..out.at]);

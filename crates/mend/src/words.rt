@@ -13,8 +13,9 @@ fn number(n: usize) -> u32 {
 
 // Why a pair was dropped.
 fn put_reason(out: &mut Output, reason: Reason)
-    requires { out.old.at + 40 ≤ length out.old.row }
-    ensures { (out.new.at ≤ out.old.at + 40) × (length out.new.row ≡ length out.old.row) }
+    requires { out.old.at + 40 ≤ length out.old.row.now }
+    ensures room { (out.new.at ≤ out.old.at + 40) × (length out.new.row.now ≡ length out.old.row.now) }
+    ensures same { out.new.row.ghost_name ≡ out.old.row.ghost_name }
 {
     match reason {
         Reason::NoEvent => out.word(b"it names no event\n"),
@@ -25,8 +26,9 @@ fn put_reason(out: &mut Output, reason: Reason)
 
 // Pair i, from event a to event b, and why it was dropped.
 pub fn put_dropped(out: &mut Output, i: usize, a: Event, b: Event, reason: Reason)
-    requires { out.old.at + 100 ≤ length out.old.row }
-    ensures { out.new.at ≤ length out.new.row }
+    requires { out.old.at + 100 ≤ length out.old.row.now }
+    ensures room { (out.new.at ≤ length out.new.row.now) × (length out.new.row.now ≡ length out.old.row.now) }
+    ensures same { out.new.row.ghost_name ≡ out.old.row.ghost_name }
 {
     out.field(b"mend: pair ", number(i));
     out.field(b" (", number(a.0));
@@ -37,8 +39,9 @@ pub fn put_dropped(out: &mut Output, i: usize, a: Event, b: Event, reason: Reaso
 
 // The fault of a sheet that is refused, and its item for a fault that has one: 5, 6 or 7.
 pub fn put_refused(out: &mut Output, fault: Fault)
-    requires { out.old.at + 100 ≤ length out.old.row }
-    ensures { out.new.at ≤ length out.new.row }
+    requires { out.old.at + 100 ≤ length out.old.row.now }
+    ensures room { (out.new.at ≤ length out.new.row.now) × (length out.new.row.now ≡ length out.old.row.now) }
+    ensures same { out.new.row.ghost_name ≡ out.old.row.ghost_name }
 {
     out.field(b"mend: refused ", fault.number());
     match fault {

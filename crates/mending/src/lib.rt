@@ -28,7 +28,7 @@ fn examine_sheet<'a>(
 ) -> Result<Reader<'a>, Fault>
     requires { most_pairs ≤ length reasons.old }
     ensures fault { told_by result ≡ sheet_fault s.now }
-    ensures found { IfOk result (λ r. (r ≡ s.now) × PairsKnown s.now reasons.old reasons.new kept.new) }
+    ensures found { IfOk result (λ r. (r.bytes.now ≡ s.now) × PairsKnown s.now reasons.old reasons.new kept.new) }
 {
     let sheet = read_laid(s)?;
     rare_number_fault(&sheet)?;

@@ -73,11 +73,11 @@ pub fn mark_pairs(
     from: &mut [u8; PAIRS],
     to: &mut [u8; PAIRS],
 ) -> Result<(), Fault>
-    requires laid { Laid sheet.now }
-    requires events_named { no_event sheet.now ≡ none }
+    requires laid { Laid sheet.now.bytes.now }
+    requires events_named { no_event sheet.now.bytes.now ≡ none }
     requires blank { Blank succ.old }
-    ensures fault { told_by result ≡ tell 10 (repeated sheet.now) }
-    ensures pairs_held { IfOk result (λ _. PairsHeld (plan_of sheet.now) (pairs_of sheet.now) succ.new from.new to.new) }
+    ensures fault { told_by result ≡ tell 10 (repeated sheet.now.bytes.now) }
+    ensures pairs_held { IfOk result (λ _. PairsHeld (plan_of sheet.now.bytes.now) (pairs_of sheet.now.bytes.now) succ.new from.new to.new) }
 {
     for i in 0..sheet.pairs() {
         let a = sheet.earlier(i);
@@ -92,6 +92,8 @@ pub fn mark_pairs(
 }
 
 // 11: the pairs have a cycle.
+// Never inlined: its sorting would stand on the stack beside the one of `arrange`, and each call needs one of them.
+#[inline(never)]
 fn find_cycle(pairs: &Pairs) -> Result<(), Fault>
     ensures { told_by result ≡ tell 11 (plain (has_cycle (plan_in pairs.now))) }
 {
@@ -118,11 +120,11 @@ fn arrange(pairs: &Pairs, rows: &mut [u32; ROWS]) -> Result<(), Fault>
 // The first of faults 10 and 11. If there is none, the rows that are wanted say what is before each event and what is after it: what is after is what
 // is before with the pairs turned.
 pub fn order_fault(sheet: &Reader, wanted: Wanted, order: &mut Order) -> Result<(), Fault>
-    requires laid { Laid sheet.now }
-    requires events_named { no_event sheet.now ≡ none }
+    requires laid { Laid sheet.now.bytes.now }
+    requires events_named { no_event sheet.now.bytes.now ≡ none }
     requires blank { Blank order.old.succ × Blank order.old.pred }
-    ensures fault { told_by result ≡ first_fault order_faults sheet.now }
-    ensures rows { IfOk result (λ _. WantedRows wanted (plan_of sheet.now) order.new.succ order.new.pred) }
+    ensures fault { told_by result ≡ first_fault order_faults sheet.now.bytes.now }
+    ensures rows { IfOk result (λ _. WantedRows wanted (plan_of sheet.now.bytes.now) order.new.succ order.new.pred) }
 {
     let mut from = [0u8; PAIRS];
     let mut to = [0u8; PAIRS];

@@ -12,6 +12,7 @@ ghost use Rattle.sheet.specs.Items.{plan_of};
 ghost use Rattle.sheet.specs.Table.{places_of, events_of};
 ghost use Rattle.place.specs.Place.{gives_in, takes_in, SettledHere};
 ghost use Rattle.place.specs.Judged.{CountedHere};
+ghost use Rattle.tokenflow.specs.Lent.{rows_in};
 
 use ids::{EVENTS, Event, Place, ROWS, WORDS};
 use least::settle_rows;
@@ -21,10 +22,10 @@ use tokenflow::Flow;
 
 // What each event gives to the place and takes from it.
 fn fill(sheet: &Reader, p: Place, free: &mut [u32; EVENTS], share: &mut [u32; EVENTS])
-    requires faultless { Faultless sheet.now }
-    requires known { p.0 < places_of sheet.now }
-    ensures gives { Filled (gives_in sheet.now p.0) (events_of sheet.now) free.old free.new }
-    ensures takes { Filled (takes_in sheet.now p.0) (events_of sheet.now) share.old share.new }
+    requires faultless { Faultless sheet.now.bytes.now }
+    requires known { p.0 < places_of sheet.now.bytes.now }
+    ensures gives { Filled (gives_in sheet.now.bytes.now p.0) (events_of sheet.now.bytes.now) free.old free.new }
+    ensures takes { Filled (takes_in sheet.now.bytes.now p.0) (events_of sheet.now.bytes.now) share.old share.new }
 {
     // By number, since the number is the event, and two rows are filled.
     for v in 0..sheet.events() {
@@ -45,11 +46,12 @@ pub fn settle_place(
     flow: &mut Flow,
     givers: &mut [u32; WORDS],
 ) -> u32
-    requires faultless { Faultless sheet.now }
-    requires known { p.0 < places_of sheet.now }
-    requires predecessors { Predecessors (plan_of sheet.now) pred.now }
-    requires rows_for { RowsFor (events_of sheet.now) flow.old.amount flow.old.fed }
-    ensures { SettledHere sheet.now p enough pred.now flow.new.amount flow.new.fed flow.new.share givers.new result }
+    requires faultless { Faultless sheet.now.bytes.now }
+    requires known { p.0 < places_of sheet.now.bytes.now }
+    requires predecessors { Predecessors (plan_of sheet.now.bytes.now) pred.now }
+    requires rows_for { RowsFor (events_of sheet.now.bytes.now) flow.old.amount.now flow.old.fed.now }
+    ensures settled { SettledHere sheet.now.bytes.now p enough pred.now flow.new.amount.now flow.new.fed.now flow.new.share.now givers.new result }
+    ensures same_rows { (rows_in flow.new).names ≡ (rows_in flow.old).names }
 {
     fill(sheet, p, flow.free, flow.share);
     settle_rows(pred, ranked, flow, givers, enough, sheet.events())
@@ -86,11 +88,12 @@ pub fn place_counts(
     flow: &mut Flow,
     givers: &mut [u32; WORDS],
 ) -> PlaceCounts
-    requires faultless { Faultless sheet.now }
-    requires known { p.0 < places_of sheet.now }
-    requires predecessors { Predecessors (plan_of sheet.now) pred.now }
-    requires rows_for { RowsFor (events_of sheet.now) flow.old.amount flow.old.fed }
-    ensures { CountedHere sheet.now p pred.now flow.new.amount flow.new.fed flow.new.share givers.new result }
+    requires faultless { Faultless sheet.now.bytes.now }
+    requires known { p.0 < places_of sheet.now.bytes.now }
+    requires predecessors { Predecessors (plan_of sheet.now.bytes.now) pred.now }
+    requires rows_for { RowsFor (events_of sheet.now.bytes.now) flow.old.amount.now flow.old.fed.now }
+    ensures counted { CountedHere sheet.now.bytes.now p pred.now flow.new.amount.now flow.new.fed.now flow.new.share.now givers.new result }
+    ensures same_rows { (rows_in flow.new).names ≡ (rows_in flow.old).names }
 {
     let mut ranked = [0usize; EVENTS];
     event_order(pred, sheet.events(), &mut ranked);

@@ -11,6 +11,7 @@ ghost use Rattle.sheet.specs.Table.{places_of, events_of};
 ghost use Rattle.place_counts.specs.Asked.{asked_at};
 ghost use Rattle.place_counts.specs.Counting.{Countable, Counted};
 ghost use Rattle.place_counts.specs.First.{DoneOf};
+ghost use Rattle.tokenflow.specs.Lent.{rows_in};
 
 use ids::{EVENTS, PLACES, Place, ROWS, WORDS};
 use place::{above, settle_place};
@@ -29,13 +30,14 @@ fn count_place(
     flow: &mut Flow,
     row: &mut [u32],
 ) -> Option<[u32; WORDS]>
-    requires faultless { Faultless sheet.now }
-    requires known { (p.0 < places_of sheet.now) × (p.0 < length row.old) }
-    requires predecessors { Predecessors (plan_of sheet.now) pred.now }
-    requires rows_for { RowsFor (events_of sheet.now) flow.old.amount flow.old.fed }
-    ensures count { row.new ≡ set row.old p.0 (asked_at least sheet.now p.0) }
-    ensures done { DoneOf sheet.now p.0 result }
-    ensures rows { RowsFor (events_of sheet.now) flow.new.amount flow.new.fed }
+    requires faultless { Faultless sheet.now.bytes.now }
+    requires known { (p.0 < places_of sheet.now.bytes.now) × (p.0 < length row.old) }
+    requires predecessors { Predecessors (plan_of sheet.now.bytes.now) pred.now }
+    requires rows_for { RowsFor (events_of sheet.now.bytes.now) flow.old.amount.now flow.old.fed.now }
+    ensures count { row.new ≡ set row.old p.0 (asked_at least sheet.now.bytes.now p.0) }
+    ensures done { DoneOf sheet.now.bytes.now p.0 result }
+    ensures rows { RowsFor (events_of sheet.now.bytes.now) flow.new.amount.now flow.new.fed.now }
+    ensures same_rows { (rows_in flow.new).names ≡ (rows_in flow.old).names }
 {
     let mut done = [0u32; WORDS];
     let opens = sheet.opening(p);
@@ -55,9 +57,10 @@ pub fn count_places(
     flow: &mut Flow,
     row: &mut [u32],
 ) -> Option<[u32; WORDS]>
-    requires countable { Countable sheet.now pred.now row.old }
-    requires rows_for { RowsFor (events_of sheet.now) flow.old.amount flow.old.fed }
-    ensures { Counted sheet.now least row.old row.new result }
+    requires countable { Countable sheet.now.bytes.now pred.now row.old }
+    requires rows_for { RowsFor (events_of sheet.now.bytes.now) flow.old.amount.now flow.old.fed.now }
+    ensures counted { Counted sheet.now.bytes.now least row.old row.new result }
+    ensures same_rows { (rows_in flow.new).names ≡ (rows_in flow.old).names }
 {
     let mut first = None;
     for p in 0..sheet.places() {
@@ -69,9 +72,9 @@ pub fn count_places(
 
 // What each number of a row is above the place's opening count.
 pub fn above_openings(sheet: &Reader, least: &[u32; PLACES], row: &mut [u32])
-    requires faultless { Faultless sheet.now }
-    requires room { places_of sheet.now ≤ length row.old }
-    ensures { Filled (λ p. get_or least.now p 0 - opening_at sheet.now p) (places_of sheet.now) row.old row.new }
+    requires faultless { Faultless sheet.now.bytes.now }
+    requires room { places_of sheet.now.bytes.now ≤ length row.old }
+    ensures { Filled (λ p. get_or least.now p 0 - opening_at sheet.now.bytes.now p) (places_of sheet.now.bytes.now) row.old row.new }
 {
     let places = sheet.places();
     // By number, since the number is the place.

@@ -22,7 +22,7 @@ use text::Output;
 
 // What is gained and lost at the place gives its end count, and the opening count less the least one its spare count.
 fn put_counts(out: &mut Output, p: Place, opening: u32, gained: u32, lost: u32, least: u32)
-    requires { (p.0 < most_places) × (out.old.at + place_room ≤ length out.old.row) }
+    requires { (p.0 < most_places) × (out.old.at + place_room ≤ length out.old.row.now) }
     ensures written { Written out.old (place_line p.0 opening (sub_ℕ gained lost) (sub_ℕ opening least)) out.new }
     ensures room { out.new.at ≤ out.old.at + place_room }
 {
@@ -37,11 +37,11 @@ fn put_counts(out: &mut Output, p: Place, opening: u32, gained: u32, lost: u32, 
 
 // The line of the place p, with its least opening count.
 fn put_place(out: &mut Output, sheet: &Reader, p: Place, least: u32)
-    requires faultless { Faultless sheet.now }
-    requires known { p.0 < places_of sheet.now }
-    requires least_value { least ≡ least_opening (net_of sheet.now) (plan_of sheet.now) p.0 }
-    requires fits { out.old.at + place_room ≤ length out.old.row }
-    ensures written { Written out.old (line_of (net_of sheet.now) (plan_of sheet.now) p.0) out.new }
+    requires faultless { Faultless sheet.now.bytes.now }
+    requires known { p.0 < places_of sheet.now.bytes.now }
+    requires least_value { least ≡ least_opening (net_of sheet.now.bytes.now) (plan_of sheet.now.bytes.now) p.0 }
+    requires fits { out.old.at + place_room ≤ length out.old.row.now }
+    ensures written { Written out.old (line_of (net_of sheet.now.bytes.now) (plan_of sheet.now.bytes.now) p.0) out.new }
     ensures room { out.new.at ≤ out.old.at + place_room }
 {
     put_counts(
@@ -56,10 +56,10 @@ fn put_place(out: &mut Output, sheet: &Reader, p: Place, least: u32)
 
 // The lines of all places, with their least opening counts in a row.
 pub fn put_places(out: &mut Output, sheet: &Reader, least: &[u32; PLACES])
-    requires faultless { Faultless sheet.now }
-    requires least_row { LeastRow sheet.now least.now }
-    requires fits { out.old.at + places_room ≤ length out.old.row }
-    ensures written { Written out.old (each (places_of sheet.now) (line_of (net_of sheet.now) (plan_of sheet.now))) out.new }
+    requires faultless { Faultless sheet.now.bytes.now }
+    requires least_row { LeastRow sheet.now.bytes.now least.now }
+    requires fits { out.old.at + places_room ≤ length out.old.row.now }
+    ensures written { Written out.old (each (places_of sheet.now.bytes.now) (line_of (net_of sheet.now.bytes.now) (plan_of sheet.now.bytes.now))) out.new }
     ensures room { out.new.at ≤ out.old.at + places_room }
 {
     for p in 0..sheet.places() {

@@ -34,13 +34,13 @@ fn put_counts(
     least: &[u32; PLACES],
     totals: Totals,
 )
-    requires faultless { Faultless sheet.now }
-    requires predecessors { Predecessors (plan_of sheet.now) pred.now }
-    requires least_row { LeastRow sheet.now least.now }
-    requires short_value { totals.short ≡ short_places (missing_at sheet.now) (places_of sheet.now) }
-    requires total_value { totals.total ≡ total_missing (missing_at sheet.now) (places_of sheet.now) }
-    requires fits { out.old.at + listing_room ≤ length out.old.row }
-    ensures written { Written out.old (count_lines (net_of sheet.now) (plan_of sheet.now)) out.new }
+    requires faultless { Faultless sheet.now.bytes.now }
+    requires predecessors { Predecessors (plan_of sheet.now.bytes.now) pred.now }
+    requires least_row { LeastRow sheet.now.bytes.now least.now }
+    requires short_value { totals.short ≡ short_places (missing_at sheet.now.bytes.now) (places_of sheet.now.bytes.now) }
+    requires total_value { totals.total ≡ total_missing (missing_at sheet.now.bytes.now) (places_of sheet.now.bytes.now) }
+    requires fits { out.old.at + listing_room ≤ length out.old.row.now }
+    ensures written { Written out.old (count_lines (net_of sheet.now.bytes.now) (plan_of sheet.now.bytes.now)) out.new }
     ensures room { out.new.at ≤ out.old.at + counts_room }
 {
     let free = free_count(pred, sheet.events());
@@ -51,10 +51,10 @@ fn put_counts(
 
 // The listing of a sheet without fault, whose order is in a row.
 pub fn put_lines(out: &mut Output, sheet: &Reader, pred: &[u32; ROWS])
-    requires faultless { Faultless sheet.now }
-    requires predecessors { Predecessors (plan_of sheet.now) pred.now }
-    requires fits { out.old.at + listing_room ≤ length out.old.row }
-    ensures { Written out.old (lines_of (net_of sheet.now) (plan_of sheet.now)) out.new }
+    requires faultless { Faultless sheet.now.bytes.now }
+    requires predecessors { Predecessors (plan_of sheet.now.bytes.now) pred.now }
+    requires fits { out.old.at + listing_room ≤ length out.old.row.now }
+    ensures { Written out.old (lines_of (net_of sheet.now.bytes.now) (plan_of sheet.now.bytes.now)) out.new }
 {
     let mut least = [0u32; PLACES];
     let mut missing = [0u32; PLACES];

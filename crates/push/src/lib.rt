@@ -2,11 +2,12 @@
 // that lack tokens, and these draw in the end. Levels only say where to look; whatever they are, every move is a draw or an exchange.
 #![tactic(auto)]
 
-ghost use Rattle.std.specs.Prelude.{◌+◌, ◌<◌, ◌≤◌, T};
+ghost use Rattle.std.specs.Prelude.{◌+◌, ◌<◌, ◌≤◌, ◌≡◌, T};
 ghost use Rattle.ids.specs.Limits.{most_events};
 ghost use Rattle.marks.specs.Marks.{marked};
 ghost use Rattle.tokenflow.specs.Flowing.{Flowing};
 ghost use Rattle.drawing.specs.Moves.{Moved, Order};
+ghost use Rattle.tokenflow.specs.Lent.{rows_in};
 
 use drawing::draw_at;
 use exchange::exchange;
@@ -31,11 +32,12 @@ fn pull_by(
     level: usize,
     n: usize,
 )
-    requires holds { Flowing n pred.now flow.old }
+    requires holds { Flowing n pred.now (rows_in flow.old) }
     requires order { Order n pred.now }
-    requires v_lt_n { (v.0 < n) × (w.0 < n) × T (marked flow.old.fed v.0 w.0) }
+    requires v_lt_n { (v.0 < n) × (w.0 < n) × T (marked flow.old.fed.now v.0 w.0) }
     requires level_lt_most_events { level < most_events }
-    ensures { Moved n pred.now flow.old flow.new }
+    ensures moves { Moved n pred.now (rows_in flow.old) (rows_in flow.new) }
+    ensures of_kept { levels.new.of ≡ levels.old.of }
 {
     let Some(u) = last_common(pred, w.0, &levels.sets, level) else {
         marks::unmark(within, 0, w.0);
@@ -55,10 +57,11 @@ fn pull_once(
     level: usize,
     n: usize,
 ) -> bool
-    requires holds { Flowing n pred.now flow.old }
+    requires holds { Flowing n pred.now (rows_in flow.old) }
     requires order { Order n pred.now }
     requires v_lt_most_events { (v.0 < most_events) × (level < most_events) }
-    ensures { Moved n pred.now flow.old flow.new }
+    ensures moves { Moved n pred.now (rows_in flow.old) (rows_in flow.new) }
+    ensures of_kept { levels.new.of ≡ levels.old.of }
 {
     let Some(w) = last_common(flow.fed, v.0, within, 0) else {
         return false;
@@ -78,10 +81,11 @@ fn pull(
     level: usize,
     n: usize,
 )
-    requires holds { Flowing n pred.now flow.old }
+    requires holds { Flowing n pred.now (rows_in flow.old) }
     requires order { Order n pred.now }
     requires v_lt_most_events { (v.0 < most_events) × (level < most_events) }
-    ensures { Moved n pred.now flow.old flow.new }
+    ensures moves { Moved n pred.now (rows_in flow.old) (rows_in flow.new) }
+    ensures of_kept { levels.new.of ≡ levels.old.of }
 {
     for _ in 0..TURNS {
         if !pull_once(pred, levels, within, flow, v, level, n) {
@@ -99,10 +103,11 @@ fn pull_next(
     lower: usize,
     n: usize,
 ) -> bool
-    requires holds { Flowing n pred.now flow.old }
+    requires holds { Flowing n pred.now (rows_in flow.old) }
     requires order { Order n pred.now }
     requires lower_bound { lower + 1 < most_events }
-    ensures { Moved n pred.now flow.old flow.new }
+    ensures moves { Moved n pred.now (rows_in flow.old) (rows_in flow.new) }
+    ensures of_kept { levels.new.of ≡ levels.old.of }
 {
     let row = EVENTS + lower;
     let Some(v) = last_only(&levels.sets, row, &[0; WORDS], 0) else {
@@ -123,10 +128,11 @@ fn pull_all(
     lower: usize,
     n: usize,
 )
-    requires holds { Flowing n pred.now flow.old }
+    requires holds { Flowing n pred.now (rows_in flow.old) }
     requires order { Order n pred.now }
     requires lower_bound { lower + 1 < most_events }
-    ensures { Moved n pred.now flow.old flow.new }
+    ensures moves { Moved n pred.now (rows_in flow.old) (rows_in flow.new) }
+    ensures of_kept { levels.new.of ≡ levels.old.of }
 {
     for _ in 0..n {
         if !pull_next(pred, levels, within, flow, lower, n) {
@@ -145,10 +151,11 @@ fn push_level(
     end: usize,
     n: usize,
 ) -> usize
-    requires holds { Flowing n pred.now flow.old }
+    requires holds { Flowing n pred.now (rows_in flow.old) }
     requires order { Order n pred.now }
     requires lower_bound { (lower + 1 < most_events) × (end ≤ most_events) }
-    ensures moves { Moved n pred.now flow.old flow.new }
+    ensures moves { Moved n pred.now (rows_in flow.old) (rows_in flow.new) }
+    ensures of_kept { levels.new.of ≡ levels.old.of }
     ensures upper_bound { result ≤ most_events }
 {
     let mut within = [0u32; WORDS];
@@ -168,10 +175,10 @@ fn draw_lowest(
     end: usize,
     n: usize,
 )
-    requires holds { Flowing n pred.now flow.old }
+    requires holds { Flowing n pred.now (rows_in flow.old) }
     requires order { Order n pred.now }
     requires end_le_most_events { end ≤ most_events }
-    ensures { Moved n pred.now flow.old flow.new }
+    ensures { Moved n pred.now (rows_in flow.old) (rows_in flow.new) }
 {
     let mut sources = levels.lowest();
     for at in 0..end {
@@ -189,10 +196,11 @@ fn push_down(
     tail: usize,
     n: usize,
 )
-    requires holds { Flowing n pred.now flow.old }
+    requires holds { Flowing n pred.now (rows_in flow.old) }
     requires order { Order n pred.now }
     requires deepest_lt_most_events { (deepest < most_events) × (tail ≤ most_events) }
-    ensures { Moved n pred.now flow.old flow.new }
+    ensures moves { Moved n pred.now (rows_in flow.old) (rows_in flow.new) }
+    ensures of_kept { levels.new.of ≡ levels.old.of }
 {
     let mut end = tail;
     for level in (0..deepest).rev() {
@@ -204,10 +212,10 @@ fn push_down(
 // Pushes what givers have free down the levels of a search, and draws it for the takers that lack tokens. The origin is 256 where the
 // search started, and the place of a giver that it didn't meet is 256.
 pub fn push(pred: &[u32; ROWS], trail: &Trail, flow: &mut Flow, tail: usize, n: usize)
-    requires holds { Flowing n pred.now flow.old }
+    requires holds { Flowing n pred.now (rows_in flow.old) }
     requires order { Order n pred.now }
     requires tail_le_most_events { tail ≤ most_events }
-    ensures { Moved n pred.now flow.old flow.new }
+    ensures { Moved n pred.now (rows_in flow.old) (rows_in flow.new) }
 {
     let mut levels = Levels::blank();
     let deepest = levels.set(trail, tail);

@@ -123,10 +123,10 @@ fn keep(reason: Option<Reason>, a: Event, b: Event, succ: &mut [u32; ROWS], kept
 
 // Writes the reason of each pair, and tells the pairs that are kept. These are marked in rows, by which a repeat is seen.
 pub fn give_reasons(sheet: &Reader, reasons: &mut [u8], kept: &mut KeptPairs)
-    requires laid { Laid sheet.now }
+    requires laid { Laid sheet.now.bytes.now }
     requires most_pairs_in_bounds { most_pairs ≤ length reasons.old }
-    ensures filled { Filled (reason_at sheet.now) (pairs_of sheet.now) reasons.old reasons.new }
-    ensures kept { KeptOf sheet.now kept.new }
+    ensures filled { Filled (reason_at sheet.now.bytes.now) (pairs_of sheet.now.bytes.now) reasons.old reasons.new }
+    ensures kept { KeptOf sheet.now.bytes.now kept.new }
 {
     let mut succ = [0u32; ROWS];
     kept.count = 0;

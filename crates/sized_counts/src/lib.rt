@@ -25,9 +25,9 @@ fn count_in(
     amount: &mut [u32],
     row: &mut [u32],
 ) -> Option<[u32; WORDS]>
-    requires countable { Countable sheet.now pred.now row.old }
-    requires room { events_of sheet.now * most_events ≤ length amount.old }
-    ensures { Counted sheet.now least row.old row.new result }
+    requires countable { Countable sheet.now.bytes.now pred.now row.old }
+    requires room { events_of sheet.now.bytes.now * most_events ≤ length amount.old }
+    ensures { Counted sheet.now.bytes.now least row.old row.new result }
 {
     let mut ranked = [0usize; EVENTS];
     event_order(pred, sheet.events(), &mut ranked);
@@ -50,10 +50,10 @@ fn count_with<const N: usize>(
     pred: &[u32; ROWS],
     row: &mut [u32],
 ) -> Option<[u32; WORDS]>
-    requires countable { Countable sheet.now pred.now row.old }
-    requires room { events_of sheet.now * most_events ≤ N }
+    requires countable { Countable sheet.now.bytes.now pred.now row.old }
+    requires room { events_of sheet.now.bytes.now * most_events ≤ N }
     requires size { N ≤ most_events * most_events }
-    ensures { Counted sheet.now least row.old row.new result }
+    ensures { Counted sheet.now.bytes.now least row.old row.new result }
 {
     let mut amount = [0u32; N];
     count_in(sheet, least, pred, &mut amount, row)
@@ -68,9 +68,9 @@ fn count_within(
     row: &mut [u32],
     most: usize,
 ) -> Option<[u32; WORDS]>
-    requires countable { Countable sheet.now pred.now row.old }
-    requires most_nonzero { (0 < most) × (events_of sheet.now ≤ most_events) }
-    ensures { Counted sheet.now least row.old row.new result }
+    requires countable { Countable sheet.now.bytes.now pred.now row.old }
+    requires most_nonzero { (0 < most) × (events_of sheet.now.bytes.now ≤ most_events) }
+    ensures { Counted sheet.now.bytes.now least row.old row.new result }
 {
     if sheet.events() > most {
         return count_within(sheet, least, pred, row, 4 * most);
@@ -95,8 +95,8 @@ pub fn count_all(
     pred: &[u32; ROWS],
     row: &mut [u32],
 ) -> Option<[u32; WORDS]>
-    requires { Countable sheet.now pred.now row.old }
-    ensures { Counted sheet.now least row.old row.new result }
+    requires { Countable sheet.now.bytes.now pred.now row.old }
+    ensures { Counted sheet.now.bytes.now least row.old row.new result }
 {
     count_within(sheet, least, pred, row, FEW)
 }

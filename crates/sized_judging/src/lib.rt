@@ -21,10 +21,10 @@ fn judge_with<const N: usize>(
     flow: &mut [u32],
     marks: &mut [u8],
 ) -> i32
-    requires judgeable { Judgeable sheet.now p order.now.succ order.now.pred flow.old marks.old }
-    requires room { events_of sheet.now * most_events ≤ N }
+    requires judgeable { Judgeable sheet.now.bytes.now p order.now.succ order.now.pred flow.old marks.old }
+    requires room { events_of sheet.now.bytes.now * most_events ≤ N }
     requires size { N ≤ most_events * most_events }
-    ensures { JudgedBy sheet.now p flow.old flow.new marks.old marks.new result }
+    ensures { JudgedBy sheet.now.bytes.now p flow.old flow.new marks.old marks.new result }
 {
     let mut amount = [0u32; N];
     judge_in(sheet, p, order, &mut amount, flow, marks)
@@ -41,9 +41,9 @@ pub fn judge_within(
     marks: &mut [u8],
     most: usize,
 ) -> i32
-    requires judgeable { Judgeable sheet.now p order.now.succ order.now.pred flow.old marks.old }
+    requires judgeable { Judgeable sheet.now.bytes.now p order.now.succ order.now.pred flow.old marks.old }
     requires some { 0 < most }
-    ensures { JudgedBy sheet.now p flow.old flow.new marks.old marks.new result }
+    ensures { JudgedBy sheet.now.bytes.now p flow.old flow.new marks.old marks.new result }
 {
     if sheet.events() > most {
         return judge_within(sheet, p, order, flow, marks, 4 * most);

@@ -56,10 +56,10 @@ fn list_pair(index: &mut [u16], a: Event, b: Event, i: usize)
 // Marks each skeleton pair (a, b) of the sheet in row b, and lists it in the index.
 #[tactic(auto, using(crate::proofs::Links::within))]
 pub fn index_pairs(sheet: &Reader, order: &Order, skeleton: &mut Skeleton)
-    requires faultless { Faultless sheet.now }
-    requires order_rows { OrderRows (plan_of sheet.now) order.now.succ order.now.pred }
+    requires faultless { Faultless sheet.now.bytes.now }
+    requires order_rows { OrderRows (plan_of sheet.now.bytes.now) order.now.succ order.now.pred }
     requires blank { Blank skeleton.old.skel × Unlisted skeleton.old.index }
-    ensures { Linked (plan_of sheet.now) (pairs_of sheet.now) skeleton.new.skel skeleton.new.index }
+    ensures { Linked (plan_of sheet.now.bytes.now) (pairs_of sheet.now.bytes.now) skeleton.new.skel skeleton.new.index }
 {
     for i in 0..sheet.pairs() {
         let a = sheet.earlier(i);

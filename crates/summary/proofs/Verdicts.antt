@@ -22,8 +22,12 @@ module _ (missing : ℕ → ℕ) where
   after : (p : ℕ) (o : Option ℕ) (b : Bool) → first_short missing p ≡ o → ltb 0 (missing p) ≡ b → first_short missing (p + 1) ≡ or_here o b p
   after p o b found tested = first_more p ∙ ap₂ (λ (x : Option ℕ) (c : Bool). or_here x c p) found tested
 
-  pub told : (n : ℕ) (o : Option ℕ) (v : Verdict) → first_short missing n ≡ o → verdict_number v ≡ short_number o → verdict_count v ≡ short_count missing o → VerdictOf missing n v
+  told : (n : ℕ) (o : Option ℕ) (v : Verdict) → first_short missing n ≡ o → verdict_number v ≡ short_number o → verdict_count v ≡ short_count missing o → VerdictOf missing n v
   told n o v found number count = (number ∙ sym (ap short_number found), count ∙ sym (ap (short_count missing) found))
+
+  pub none_yet : (n : ℕ) → n ≡ 0 → VerdictOf missing n Runs
+  unfolding first
+  none_yet n e = rw e (refl, refl)
 
   module _ (p m : ℕ) (is : missing p ≡ m) where
     -- the first short place stays, whatever comes after it

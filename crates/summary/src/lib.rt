@@ -38,13 +38,28 @@ fn short_places(counts: &[u32]) -> u32
     counts.iter().filter(|m| **m > 0).count() as u32
 }
 
+// The verdict on the places below p and on p itself, where m are missing: the first short place stays.
+fn keep_first(v: Verdict, p: Place, m: u32) -> Verdict
+    ensures { NextVerdict v p.0 m result }
+{
+    if m == 0 {
+        return v;
+    }
+    match v {
+        Verdict::Runs => Verdict::Short(p, m),
+        Verdict::Short(q, k) => Verdict::Short(q, k),
+    }
+}
+
+// Place by place and no `position`: that the verdict with one place more is `NextVerdict` is what each turn keeps.
 fn verdict_of(counts: &[u32]) -> Verdict
     ensures { VerdictOf (count_at counts.now) (length counts.now) result }
 {
-    match counts.iter().position(|m| *m > 0) {
-        Some(p) => Verdict::Short(Place(p), counts[p]),
-        None => Verdict::Runs,
+    let mut v = Verdict::Runs;
+    for p in 0..counts.len() {
+        v = keep_first(v, Place(p), counts[p]);
     }
+    v
 }
 
 // What the counts of the first n places come to.

@@ -1,8 +1,8 @@
 -- Text put into a row of bytes at a position, with all else as it was.
-use Rattle.std.specs.Prelude.{ℕ, suc, ◌+◌, ◌≤◌, ◌<◌, List, [], ◌∷◌, ◌++◌, ◌≡◌, refl, length, set, take, drop}
-use Rattle.std.proofs.Common.{add-one, arith, append_assoc, append-nil, sym, ap, ◌∙◌, length-set, length-append, take-append-drop, length-take-le, take_at, drop_at, drop-drop}
+use Rattle.std.specs.Prelude.{ℕ, suc, ◌+◌, ◌≤◌, ◌<◌, List, [], ◌∷◌, ◌++◌, ◌≡◌, refl, length, get_or, set, take, drop}
+use Rattle.std.proofs.Common.{add-one, add-zero, add_assoc, arith, append_assoc, append-nil, sym, ap, subst, ◌∙◌, length-set, length-append, take-append-drop, length-take-le, take_at, drop_at, drop-drop, take-suc}
 use Rattle.std.proofs.lemmas.List.{set_split}
-use Rattle.std.proofs.Math.Seq.{append_snoc}
+use Rattle.std.proofs.Math.Seq.{append_snoc, take-length}
 
 pub record Put (old new : List ℕ) (at : ℕ) (text : List ℕ) (end : ℕ) : Type 0 where
   pub is : new ≡ take at old ++ text ++ drop end old
@@ -63,3 +63,18 @@ put_then {old} {mid} {new} {at} {text} {more} {between} {end} first second =
 -- a text that was put, by what it says
 pub put_says : {old new : List ℕ} {at : ℕ} {text : List ℕ} {end : ℕ} → Put old new at text end → (more : List ℕ) → text ≡ more → Put old new at more end
 put_says put more e = rw e at put
+
+-- A loop that puts a word byte by byte.
+module _ (old : List ℕ) (at : ℕ) (word : List ℕ) where
+  pub word_start : at ≤ length old → Put old old at (take 0 word) (at + 0)
+  word_start l = rw add-zero (put_none old at l)
+
+  pub word_more : (row : List ℕ) (i : ℕ) → at + i < length row → i < length word → Put old row at (take i word) (at + i)
+      → Put old (set row (at + i) (get_or word i 0)) at (take (i + 1) word) (at + (i + 1))
+  word_more row i l m h =
+      rw (add-one, take-suc word i 0, ← add-one, ← add_assoc) (put_then h (put_byte row (at + i) (get_or word i 0) l))
+
+  pub word_done : (row : List ℕ) (i : ℕ) → i ≤ length word → length word ≤ i → Put old row at (take i word) (at + i) → Put old row at word (at + length word)
+  word_done row i l m h =
+      let e : i ≡ length word = omega arith in
+      subst (λ (text : List ℕ). Put old row at text (at + length word)) (take-length word) (subst (λ (n : ℕ). Put old row at (take n word) (at + n)) e h)

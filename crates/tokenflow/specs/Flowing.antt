@@ -38,19 +38,20 @@ pub record Flowing (n : ℕ) (pred : List ℕ) (r : Rows) : Type 0 where
   pub gives_fit : (u : ℕ) → u < n → given_in n r u < 4294967296
   pub takes_fit : (w : ℕ) → w < n → taken_in n r w < 4294967296
 
--- Every event gives and takes in the second rows what it does in the first.
+-- Every event gives and takes in the second rows what it does in the first, and they are the same rows.
 pub record Kept (n : ℕ) (r r' : Rows) : Type 0 where
   pub gives : (u : ℕ) → u < n → given_in n r u ≡ given_in n r' u
   pub takes : (w : ℕ) → w < n → taken_in n r w ≡ taken_in n r' w
+  pub names : r.names ≡ r'.names
 
 pub kept_none : (n : ℕ) (r : Rows) → Kept n r r
-kept_none n r = record { gives = λ u l. refl; takes = λ w l. refl }
+kept_none n r = record { gives = λ u l. refl; takes = λ w l. refl; names = refl }
 
 pub kept_then : {n : ℕ} {r s t : Rows} → Kept n r s → Kept n s t → Kept n r t
-kept_then k m = record { gives = λ u l. k.gives u l ∙ m.gives u l; takes = λ w l. k.takes w l ∙ m.takes w l }
+kept_then k m = record { gives = λ u l. k.gives u l ∙ m.gives u l; takes = λ w l. k.takes w l ∙ m.takes w l; names = k.names ∙ m.names }
 
 pub kept_back : {n : ℕ} {r s : Rows} → Kept n r s → Kept n s r
-kept_back k = record { gives = λ u l. sym (k.gives u l); takes = λ w l. sym (k.takes w l) }
+kept_back k = record { gives = λ u l. sym (k.gives u l); takes = λ w l. sym (k.takes w l); names = sym k.names }
 
 -- what all takers lack
 unfoldable pub lacking : ℕ → Rows → ℕ
@@ -80,6 +81,7 @@ module _ {n : ℕ} {r r' : Rows} {u w k : ℕ} (few : n ≤ most_events) (d : Dr
       record {
         gives = λ a l. omega (arith, row_more a l lw, d.spent.less a);
         takes = λ b l. omega (arith, column_more b l lu, d.covered.less b);
+        names = d.names;
       }
 
 module _ {n : ℕ} {pred : List ℕ} {r r' : Rows} {u w k : ℕ} (d : Drawn r r' u w k) where

@@ -23,21 +23,31 @@ pub record Raised (amount fed amount' fed' : List ℕ) (u w k : ℕ) : Type 0 wh
 pub record Lowered (row row' : List ℕ) (i k : ℕ) : Type 0 where
   pub less : (a : ℕ) → get_or row a 0 ≡ get_or row' a 0 + on (eqb i a) k
 
--- The rows of a tokenflow: amounts and their marks, what each giver has free, and what each taker lacks.
+-- Which rows a `Flow` refers to: the ghost name of each. While they stay, what is written is written to the rows that were lent.
+pub record RowNames : Type 0 where
+  pub amount : ℕ
+  pub fed : ℕ
+  pub free : ℕ
+  pub share : ℕ
+
+-- The rows of a tokenflow: amounts and their marks, what each giver has free, what each taker lacks, and which rows these are.
 pub record Rows : Type 0 where
   pub amount : List ℕ
   pub fed : List ℕ
   pub free : List ℕ
   pub share : List ℕ
+  pub names : RowNames
 
+-- rows that no `Flow` refers to, put together from lists
 abbrev pub rows : List ℕ → List ℕ → List ℕ → List ℕ → Rows
-rows a f r s = record { amount = a; fed = f; free = r; share = s }
+rows a f r s = record { amount = a; fed = f; free = r; share = s; names = record { amount = 0; fed = 0; free = 0; share = 0 } }
 
--- The second rows are the first with k tokens drawn from u for w.
+-- The second rows are the first with k tokens drawn from u for w, and no others.
 pub record Drawn (r r' : Rows) (u w k : ℕ) : Type 0 where
   pub raised : Raised r.amount r.fed r'.amount r'.fed u w k
   pub spent : Lowered r.free r'.free u k
   pub covered : Lowered r.share r'.share w k
+  pub names : r.names ≡ r'.names
 
 -- k tokens may be drawn from u for w: the one has them free, and the other lacks them.
 pub record MayDraw (r : Rows) (u w k : ℕ) : Type 0 where

@@ -5,27 +5,19 @@ ghost use Rattle.std.specs.Prelude.{◌+◌, ◌*◌, ◌<◌, ◌≤◌, ◌≡
 ghost use Rattle.ids.specs.Limits.{most_events};
 ghost use Rattle.marks.specs.Marks.{marked};
 ghost use Rattle.tokenflow.specs.Rows.{fed_by, Exact, Raised, Lowered, MayDraw, MayGiveBack, Drawn};
+ghost use Rattle.tokenflow.specs.Lent.{rows_in};
 
 use ids::{EVENTS, Event, ROWS};
-use std::marker::Model;
 
 // The rows lent for one place: tokens from each giver to each taker, and marks where some flow, what each giver has free, and what each
 // taker lacks.
-// Contracts speak of the rows that it refers to, so who lends it makes it of rows of its own.
+// Contracts speak of the rows that it refers to and of which they are, so who lends it knows of rows of its own.
 #[derive(Drop)]
 pub struct Flow<'a> {
     pub amount: &'a mut [u32],
     pub fed: &'a mut [u32; ROWS],
     pub free: &'a mut [u32; EVENTS],
     pub share: &'a mut [u32; EVENTS],
-}
-
-impl<'a> Model for Flow<'a> {
-    ghost use Rattle.tokenflow.specs.Rows.{Rows, rows};
-
-    ghost Value = { Rows };
-
-    ghost view = { λ f. rows f.amount.now f.fed.now f.free.now f.share.now };
 }
 
 // k tokens more from u to w. This and what follows take the rows that they change, so that their clauses need not say that the others stay.
@@ -74,7 +66,7 @@ impl<'a> Flow<'a> {
     // What the giver u has free.
     pub fn free(&self, u: Event) -> u32
         requires u_lt_most_events { u.0 < most_events }
-        ensures { result ≡ get_or self.now.free u.0 0 }
+        ensures { result ≡ get_or self.now.free.now u.0 0 }
     {
         let row = &*self.free;
         row[u.0]
@@ -83,7 +75,7 @@ impl<'a> Flow<'a> {
     // What the taker w lacks.
     pub fn lacks(&self, w: Event) -> u32
         requires w_lt_most_events { w.0 < most_events }
-        ensures { result ≡ get_or self.now.share w.0 0 }
+        ensures { result ≡ get_or self.now.share.now w.0 0 }
     {
         let row = &*self.share;
         row[w.0]
@@ -91,9 +83,9 @@ impl<'a> Flow<'a> {
 
     // What stands for u and w: the tokens that u feeds to w, where it feeds w.
     pub fn amount(&self, u: Event, w: Event) -> u32
-        requires w_in_bounds { u.0 * most_events + w.0 < length self.now.amount }
+        requires w_in_bounds { u.0 * most_events + w.0 < length self.now.amount.now }
         requires u_lt_most_events { (u.0 < most_events) × (w.0 < most_events) }
-        ensures { result ≡ get_or self.now.amount (u.0 * most_events + w.0) 0 }
+        ensures { result ≡ get_or self.now.amount.now (u.0 * most_events + w.0) 0 }
     {
         let row = &*self.amount;
         row[u.0 * EVENTS + w.0]
@@ -102,15 +94,15 @@ impl<'a> Flow<'a> {
     // Whether u feeds w.
     pub fn feeds(&self, u: Event, w: Event) -> bool
         requires u_lt_most_events { (u.0 < most_events) × (w.0 < most_events) }
-        ensures { result ≡ marked self.now.fed u.0 w.0 }
+        ensures { result ≡ marked self.now.fed.now u.0 w.0 }
     {
         marks::is_marked(self.fed, u.0, w.0)
     }
 
     // Draws k tokens from the giver u for the taker w.
     pub fn draw(&mut self, u: Event, w: Event, k: u32)
-        requires { MayDraw self.old u.0 w.0 k }
-        ensures { Drawn self.old self.new u.0 w.0 k }
+        requires { MayDraw (rows_in self.old) u.0 w.0 k }
+        ensures { Drawn (rows_in self.old) (rows_in self.new) u.0 w.0 k }
     {
         raise(self.amount, self.fed, u, w, k);
         self.free[u.0] -= k;
@@ -119,9 +111,9 @@ impl<'a> Flow<'a> {
 
     // Gives back k of the tokens that u feeds to w.
     pub fn give_back(&mut self, u: Event, w: Event, k: u32)
-        requires { MayGiveBack self.old u.0 w.0 k }
-        ensures drawn { Drawn self.new self.old u.0 w.0 k }
-        ensures exact { Exact self.old.amount self.old.fed → Exact self.new.amount self.new.fed }
+        requires { MayGiveBack (rows_in self.old) u.0 w.0 k }
+        ensures drawn { Drawn (rows_in self.new) (rows_in self.old) u.0 w.0 k }
+        ensures exact { Exact self.old.amount.now self.old.fed.now → Exact self.new.amount.now self.new.fed.now }
     {
         lower(self.amount, self.fed, u, w, k);
         refund(self.free, u, k);

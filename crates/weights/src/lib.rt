@@ -16,9 +16,9 @@ use sheet::Fault;
 
 // Whether a transition has a weight above the limit.
 fn is_heavy(sheet: &Reader, t: Transition) -> bool
-    requires laid { Laid sheet.now }
-    requires known { t.0 < transitions_of sheet.now }
-    ensures { result ≡ over_weight_in sheet.now t.0 }
+    requires laid { Laid sheet.now.bytes.now }
+    requires known { t.0 < transitions_of sheet.now.bytes.now }
+    ensures { result ≡ over_weight_in sheet.now.bytes.now t.0 }
 {
     let mut heavy = false;
     for p in 0..sheet.places() {
@@ -30,8 +30,8 @@ fn is_heavy(sheet: &Reader, t: Transition) -> bool
 
 // Whether any transition has.
 fn any_heavy(sheet: &Reader) -> bool
-    requires { Laid sheet.now }
-    ensures { result ≡ any (transitions_of sheet.now) (over_weight_in sheet.now) }
+    requires { Laid sheet.now.bytes.now }
+    ensures { result ≡ any (transitions_of sheet.now.bytes.now) (over_weight_in sheet.now.bytes.now) }
 {
     let mut heavy = false;
     for t in 0..sheet.transitions() {
@@ -42,8 +42,8 @@ fn any_heavy(sheet: &Reader) -> bool
 
 // The first of faults 5, 6 and 7, of a sheet that rarely has one.
 pub fn rare_number_fault(sheet: &Reader) -> Result<(), Fault>
-    requires { Laid sheet.now }
-    ensures { told_by result ≡ first_fault number_faults sheet.now }
+    requires { Laid sheet.now.bytes.now }
+    ensures { told_by result ≡ first_fault number_faults sheet.now.bytes.now }
 {
     if any_heavy(sheet) {
         return number_fault(sheet);

@@ -13,17 +13,7 @@ ghost use Rattle.writer.specs.Written.{layout_for, entry, table, pair_bytes};
 
 use ids::Event;
 use layout::{Layout, TABLE};
-
-// Puts a word at a position, and tells where it ends.
-// A row and a position, and no Output of text: in contracts an Output doesn't say that it still holds the row that was lent, and `mend` owes what stands in it.
-fn put_word(row: &mut [u8], at: usize, word: &[u8]) -> usize
-    requires { at + length word.now ≤ length row.old }
-    ensures { Put row.old row.new at word.now result }
-{
-    let end = at + word.len();
-    row[at..end].copy_from_slice(word);
-    end
-}
+use text::put_word;
 
 // An entry of the table: where a body starts and how many items it has, 4 bytes each.
 fn put_entry(row: &mut [u8], at: usize, start: usize, count: usize) -> usize

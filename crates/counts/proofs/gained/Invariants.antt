@@ -5,4 +5,4 @@ use Rattle.sheet.specs.Table.{events_of}
 use Rattle.counts.proofs.gained.Given as goal
 
 abbrev pub invariant-loop-v : goal.invariant-loop-v
-invariant-loop-v l = (l.v ≤ events_of l.sheet) × (l.sum ≡ gained_by l.sheet l.p.0 l.v) × (l.sum ≤ 1000000 + 1000 * l.v)
+invariant-loop-v l = (l.v ≤ events_of l.sheet.bytes.now) × (l.sum ≡ gained_by l.sheet.bytes.now l.p.0 l.v) × (l.sum ≤ 1000000 + 1000 * l.v)

@@ -4,7 +4,7 @@ use Rattle.flow_sums.proofs.Pairs.{Added}
 use Rattle.flow_sums.proofs.add_pairs.Given as goal
 
 abbrev pub invariant-loop-i : goal.invariant-loop-i
-invariant-loop-i l = (l.i ≤ l.i-end) × Added l.sheet l.row l.i l.carried.into l.carried.out
+invariant-loop-i l = (l.i ≤ l.i-end) × Added l.sheet.bytes.now l.row l.i l.carried.into l.carried.out
 
 abbrev pub decreases-loop-i : goal.decreases-loop-i
 decreases-loop-i l = l.i-end - l.i

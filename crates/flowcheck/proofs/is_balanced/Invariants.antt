@@ -7,7 +7,7 @@ use Rattle.flowcheck.specs.Kept.{kept_at}
 use Rattle.flowcheck.proofs.is_balanced.Given as goal
 
 abbrev pub invariant-loop-v : goal.invariant-loop-v
-invariant-loop-v l = (l.v ≤ l.v-end) × (all l.v (kept_at (net_of l.sheet) (plan_of l.sheet) l.p.0 (flow_of l.row)) ≡ true)
+invariant-loop-v l = (l.v ≤ l.v-end) × (all l.v (kept_at (net_of l.sheet.bytes.now) (plan_of l.sheet.bytes.now) l.p.0 (flow_of l.row)) ≡ true)
 
 abbrev pub decreases-loop-v : goal.decreases-loop-v
 decreases-loop-v l = l.v-end - l.v

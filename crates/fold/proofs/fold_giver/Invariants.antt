@@ -7,7 +7,7 @@ use Rattle.fold.proofs.fold_giver.Given as goal
 
 abbrev pub invariant-loop-w : goal.invariant-loop-w
 invariant-loop-w l =
-    (l.w ≤ l.n) × Turned l.n l.succ l.skeleton.skel l.skeleton.index l.flow.amount l.flow.fed (l.u.0 * most_events) l.initial.row (turn_of l.u.0 l.w) l.row
+    (l.w ≤ l.n) × Turned l.n l.succ l.skeleton.skel l.skeleton.index l.flow.amount.now l.flow.fed.now (l.u.0 * most_events) l.initial.row (turn_of l.u.0 l.w) l.row
 
 abbrev pub decreases-loop-w : goal.decreases-loop-w
 decreases-loop-w l = l.n - l.w

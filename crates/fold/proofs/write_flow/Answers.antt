@@ -24,5 +24,5 @@ returns c =
       all_folded = λ P g m.
           let f = c.fold.ensures P g (m ∙ sym (length-take-le _ _ (omega arith))) in
           parts_folded a.pairs a.row.now first (omega arith) c.fold.auto.row c.write_shares.new.part P _ m f;
-      shares_from = rw (sym c.flow.view_is) (parts_shares a.pairs a.row.now first (omega arith) c.fold.auto.row _ _ _ c.write_shares.ensures);
+      shares_from = parts_shares a.pairs a.row.now first (omega arith) c.fold.auto.row _ _ _ c.write_shares.ensures;
     }

@@ -15,7 +15,7 @@ returns-then-m-eq0 c = runs_flow _ _ _ _ _ _ c.requires.shown_by.1.1 _ _ _ (omeg
 
 pub returns : goal.returns
 returns c =
-    let all : c.pairs.result + c.events.result ≡ flow_length c.args.sheet.now = omega (arith, c.pairs.ensures, c.events.ensures) in
+    let all : c.pairs.result + c.events.result ≡ flow_length c.args.sheet.now.bytes.now = omega (arith, c.pairs.ensures, c.events.ensures) in
     let cleared : c.fill.new.self ≡ replicate (c.pairs.result + c.events.result) 0 = search (rules, length-take-le) in
     let filled = filled_zeros _ _ c.args.row.now _ all c.requires.room cleared in
     short_flow _ _ _ _ _ _ c.requires.shown_by.1.1 _ _ c.if-m-eq0.false filled

@@ -13,7 +13,7 @@ place_counts-counts-requires c =
 pub hand_flow-requires : goal.hand_flow-requires
 hand_flow-requires c =
     let h = c.requires.judgeable in
-    record { faultless = h.0; known = h.1; order_rows = h.2; shown_by = (_, c.place_counts-counts.ensures.1); room = h.3 }
+    record { faultless = h.0; known = h.1; order_rows = h.2; shown_by = (_, c.place_counts-counts.ensures.counted.1); room = h.3 }
 
 pub write_marks-requires : goal.write_marks-requires
 write_marks-requires c =
@@ -23,6 +23,6 @@ write_marks-requires c =
 pub returns : goal.returns
 returns c =
     let h = c.requires.judgeable in
-    let told = c.place_counts-counts.ensures in
+    let told = c.place_counts-counts.ensures.counted in
     let fits = spare_fits _ h.0 _ h.1 in
     (to_z-of_z {w = w32} (subst (FitsSigned w32) (sym told.0) fits) ∙ told.0, marks_done_lem told.1.1 c.events.ensures c.write_marks.ensures, c.hand_flow.ensures)

@@ -6,4 +6,4 @@ use Rattle.sheet.specs.Table.{events_of}
 use Rattle.items.proofs.no_transition.Given as goal
 
 abbrev pub invariant-loop-v : goal.invariant-loop-v
-invariant-loop-v l = (l.v ≤ events_of l.sheet) × (any l.v (no_transition_at l.sheet) ≡ false)
+invariant-loop-v l = (l.v ≤ events_of l.sheet.bytes.now) × (any l.v (no_transition_at l.sheet.bytes.now) ≡ false)

@@ -6,4 +6,4 @@ use Rattle.sheet.specs.Table.{transitions_of}
 use Rattle.items.proofs.over_weight.Given as goal
 
 abbrev pub invariant-loop-t : goal.invariant-loop-t
-invariant-loop-t l = (l.t ≤ transitions_of l.sheet) × (any l.t (over_weight_in l.sheet) ≡ false)
+invariant-loop-t l = (l.t ≤ transitions_of l.sheet.bytes.now) × (any l.t (over_weight_in l.sheet.bytes.now) ≡ false)

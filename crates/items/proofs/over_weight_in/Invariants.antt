@@ -6,4 +6,4 @@ use Rattle.sheet.specs.Table.{places_of}
 use Rattle.items.proofs.over_weight_in.Given as goal
 
 abbrev pub invariant-loop-p : goal.invariant-loop-p
-invariant-loop-p l = (l.p ≤ places_of l.sheet) × (any l.p (over_weight_at l.sheet l.t.0) ≡ false)
+invariant-loop-p l = (l.p ≤ places_of l.sheet.bytes.now) × (any l.p (over_weight_at l.sheet.bytes.now l.t.0) ≡ false)

@@ -6,4 +6,4 @@ use Rattle.sheet.specs.Table.{pairs_of}
 use Rattle.items.proofs.self_pair.Given as goal
 
 abbrev pub invariant-loop-i : goal.invariant-loop-i
-invariant-loop-i l = (l.i ≤ pairs_of l.sheet) × (any l.i (self_pair_at l.sheet) ≡ false)
+invariant-loop-i l = (l.i ≤ pairs_of l.sheet.bytes.now) × (any l.i (self_pair_at l.sheet.bytes.now) ≡ false)

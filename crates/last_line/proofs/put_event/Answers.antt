@@ -1,7 +1,7 @@
 -- An event's text follows its mark, by `member_told`.
 use Rattle.std.proofs.Common.{arith, true, false, rules}
 use Rattle.text.specs.Words.{word}
-use Rattle.text.specs.Put.{put_none}
+use Rattle.text.specs.Output.{written_none}
 use Rattle.search.specs.Row.{member_told}
 use Rattle.last_line.proofs.put_event.Goals as goal
 
@@ -13,4 +13,4 @@ returns-then-is_marked-clause-written c =
 pub returns-else-is_marked-clause-written : goal.returns-else-is_marked-clause-written
 unfolding word
 returns-else-is_marked-clause-written c =
-    rw (member_told _ _ false (omega arith) c.is_marked.ensures (search rules)) (put_none _ _ (omega arith))
+    rw (member_told _ _ false (omega arith) c.is_marked.ensures (search rules)) (written_none _ (omega arith))

@@ -1,5 +1,6 @@
 -- `least::settle_rows` meets its contract: whatever place has the rows, drawing and settling keep a tokenflow of it, and the shares at the end
--- are the least opening count or within what is enough.
+-- are the least opening count or within what is enough. All of it happens in the rows that were lent.
+use Rattle.std.proofs.Common.{sym}
 use Rattle.drawing.specs.Moves.{moved_then}
 use Rattle.least.specs.PlaceRows.{unfed_flows}
 use Rattle.least.specs.Settled.{small_lack, place_settled}
@@ -7,17 +8,18 @@ use Rattle.least.proofs.settle_rows.Goals as goal
 
 pub draw_all-requires-clause-holds : goal.draw_all-requires-clause-holds
 draw_all-requires-clause-holds c =
-    let at = rw (← c.flow.view_is) at c.requires.some_place.3 in
-    let room = rw (← c.flow.view_is) at c.requires.rows_for.0 in
-    unfed_flows _ _ at.few c.clear.ensures _ room at.small_gives at.small_takes
+    let at = c.requires.some_place.3 in
+    unfed_flows _ _ at.few c.clear.ensures _ c.requires.rows_for.0 at.small_gives at.small_takes
 
 pub total-requires-clause-small : goal.total-requires-clause-small
 total-requires-clause-small c =
-    let at = rw (← c.flow.view_is) at c.requires.some_place.3 in
-    small_lack _ _ _ _ _ _ _ at c.clear.ensures (moved_then _ _ _ _ _ c.draw_all.ensures c.settle.ensures.moves)
+    small_lack _ _ _ _ _ _ _ c.requires.some_place.3 c.clear.ensures (moved_then _ _ _ _ _ c.draw_all.ensures c.settle.ensures.moves)
 
-pub returns : goal.returns
-returns c =
+pub returns-clause-settles : goal.returns-clause-settles
+returns-clause-settles c =
     λ N P p place.
-    let at = rw (← c.flow.view_is) at place in
-    place_settled N P p _ _ _ _ at c.clear.ensures (moved_then _ _ _ _ _ c.draw_all.ensures c.settle.ensures.moves) _ _ _ c.settle.ensures.ended c.total.ensures
+    place_settled N P p _ _ _ _ place c.clear.ensures (moved_then _ _ _ _ _ c.draw_all.ensures c.settle.ensures.moves) _ _ _ c.settle.ensures.ended c.total.ensures
+
+pub returns-clause-same_rows : goal.returns-clause-same_rows
+returns-clause-same_rows c =
+    sym (moved_then _ _ _ _ _ c.draw_all.ensures c.settle.ensures.moves).kept.names

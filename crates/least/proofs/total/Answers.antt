@@ -8,12 +8,10 @@ use Rattle.least.proofs.total.Goals as goal
 
 pub sum-requires-clause-fits : goal.sum-requires-clause-fits
 sum-requires-clause-fits c =
-    let small = rw (← c.flow.view_is) at c.requires.small in
-    let share = c.flow.inside.share.now in
-    fits_from_yields_list c.iter.result _ (YieldsList-from_slice (take c.args.n share) cc) (omega (arith, sum_taken share c.args.n, small_total share _ small))
+    let share = c.args.flow.now.share.now in
+    fits_from_yields_list c.iter.result _ (YieldsList-from_slice (take c.args.n share) cc) (omega (arith, sum_taken share c.args.n, small_total share _ c.requires.small))
 
 pub returns : goal.returns
 returns c =
-    let share = c.flow.inside.share.now in
-    rw (← c.flow.view_is)
-    (omega (arith, sum_from_yields_List c.iter.result _ c.sum.ensures.ran (YieldsList-from_slice (take c.args.n share) cc), sum_taken share c.args.n))
+    let share = c.args.flow.now.share.now in
+    omega (arith, sum_from_yields_List c.iter.result _ c.sum.ensures.ran (YieldsList-from_slice (take c.args.n share) cc), sum_taken share c.args.n)

@@ -1,6 +1,6 @@
 -- Its texts are put one after another.
 use Rattle.lines.specs.Listing.{totals_line}
-use Rattle.text.specs.Putting.{◌then◌}
+use Rattle.text.specs.Output.{◌then◌}
 use Rattle.text.specs.Words.{word}
 use Rattle.lines.proofs.put_totals.Goals as goal
 

@@ -8,4 +8,4 @@ use Rattle.order.specs.Rows.{PairsHeld}
 use Rattle.order.proofs.mark_pairs.Given as goal
 
 abbrev pub invariant-loop-i : goal.invariant-loop-i
-invariant-loop-i l = (l.i ≤ pairs_of l.sheet) × (any l.i (repeat_at l.sheet) ≡ false) × PairsHeld (plan_of l.sheet) l.i l.succ l.from l.to
+invariant-loop-i l = (l.i ≤ pairs_of l.sheet.bytes.now) × (any l.i (repeat_at l.sheet.bytes.now) ≡ false) × PairsHeld (plan_of l.sheet.bytes.now) l.i l.succ l.from l.to

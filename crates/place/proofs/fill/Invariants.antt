@@ -7,4 +7,4 @@ use Rattle.place.proofs.fill.Given as goal
 
 abbrev pub invariant-loop-v : goal.invariant-loop-v
 invariant-loop-v l =
-    (l.v ≤ events_of l.sheet) × Filled (gives_in l.sheet l.p.0) l.v l.initial.free l.free × Filled (takes_in l.sheet l.p.0) l.v l.initial.share l.share
+    (l.v ≤ events_of l.sheet.bytes.now) × Filled (gives_in l.sheet.bytes.now l.p.0) l.v l.initial.free l.free × Filled (takes_in l.sheet.bytes.now l.p.0) l.v l.initial.share l.share

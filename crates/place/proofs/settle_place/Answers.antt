@@ -1,5 +1,6 @@
 -- The rows that are filled from the sheet are those of its place.
 use Rattle.sheet.specs.Items.{net_of, plan_of}
+use Rattle.least.specs.Settled.{settled_rows}
 use Rattle.place.specs.Place.{sheet_rows}
 use Rattle.place.proofs.settle_place.Goals as goal
 
@@ -7,6 +8,7 @@ pub settle_rows-requires-clause-some_place : goal.settle_rows-requires-clause-so
 settle_rows-requires-clause-some_place c =
     (net_of _, plan_of _, _, sheet_rows _ c.requires.faultless _ _ c.requires.known c.events.ensures _ _ _ _ _ c.requires.predecessors c.fill.ensures.gives c.fill.ensures.takes)
 
-pub returns : goal.returns
-returns c =
-    (_, c.settle_rows.ensures _ _ _ (sheet_rows _ c.requires.faultless _ _ c.requires.known c.events.ensures _ _ _ _ _ c.requires.predecessors c.fill.ensures.gives c.fill.ensures.takes))
+pub returns-clause-settled : goal.returns-clause-settled
+returns-clause-settled c =
+    let rows = sheet_rows _ c.requires.faultless _ _ c.requires.known c.events.ensures _ _ _ _ _ c.requires.predecessors c.fill.ensures.gives c.fill.ensures.takes in
+    (_, settled_rows (c.settle_rows.ensures.settles _ _ _ rows))

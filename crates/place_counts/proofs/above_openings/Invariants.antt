@@ -6,4 +6,4 @@ use Rattle.sheet.specs.Table.{places_of}
 use Rattle.place_counts.proofs.above_openings.Given as goal
 
 abbrev pub invariant-loop-p : goal.invariant-loop-p
-invariant-loop-p l = (l.p ≤ places_of l.sheet) × Filled (λ q. get_or l.least q 0 - opening_at l.sheet q) l.p l.initial.row l.row
+invariant-loop-p l = (l.p ≤ places_of l.sheet.bytes.now) × Filled (λ q. get_or l.least q 0 - opening_at l.sheet.bytes.now q) l.p l.initial.row l.row

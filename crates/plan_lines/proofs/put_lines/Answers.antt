@@ -1,6 +1,6 @@
 -- One row has the least opening counts of the places, the other what is missing, and the done set is that of the first short one.
 use Rattle.std.proofs.Common.{arith}
-use Rattle.text.specs.Putting.{◌then◌}
+use Rattle.text.specs.Output.{◌then◌}
 use Rattle.plan_lines.proofs.Judging.{least_row, small, told, few_places, lines_are}
 use Rattle.plan_lines.proofs.put_lines.Goals as goal
 
@@ -30,7 +30,7 @@ put_verdict-requires c =
     let text = c.put_counts.ensures in
     record {
       v_bound = few_places _ pre.faultless c.sum_up-totals.result all;
-      n_le_most_events = (omega (arith, c.events.ensures, pre.faultless.laid.limited.events), omega (arith, text.written.size, text.room, pre.fits));
+      n_le_most_events = (omega (arith, c.events.ensures, pre.faultless.laid.limited.events), omega (arith, text.written.put.size, text.room, pre.fits));
     }
 
 pub returns : goal.returns

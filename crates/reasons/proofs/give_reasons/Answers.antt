@@ -33,4 +33,4 @@ loop-i-preserved c =
 pub returns : goal.returns
 returns c =
     let so_far = c.loop-i.invariant in
-    let all = so_far_all _ _ _ _ _ _ (pairs_of c.args.sheet.now) so_far.2 (omega arith) in record { filled = all.written; kept = record { count = all.counted; holds = all.holds } }
+    let all = so_far_all _ _ _ _ _ _ (pairs_of c.args.sheet.now.bytes.now) so_far.2 (omega arith) in record { filled = all.written; kept = record { count = all.counted; holds = all.holds } }

@@ -7,4 +7,4 @@ use Rattle.reasons.proofs.give_reasons.Given as goal
 
 abbrev pub invariant-loop-i : goal.invariant-loop-i
 invariant-loop-i l =
-    (l.i ≤ pairs_of l.sheet) × (most_pairs ≤ length l.reasons) × SoFar l.sheet l.initial.reasons l.reasons l.succ l.kept l.i
+    (l.i ≤ pairs_of l.sheet.bytes.now) × (most_pairs ≤ length l.reasons) × SoFar l.sheet.bytes.now l.initial.reasons l.reasons l.succ l.kept l.i

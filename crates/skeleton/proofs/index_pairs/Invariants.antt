@@ -5,7 +5,7 @@ use Rattle.skeleton.specs.Linked.{Linked}
 use Rattle.skeleton.proofs.index_pairs.Given as goal
 
 abbrev pub invariant-loop-i : goal.invariant-loop-i
-invariant-loop-i l = (l.i ≤ l.i-end) × Linked (plan_of l.sheet) l.i l.skeleton.skel l.skeleton.index
+invariant-loop-i l = (l.i ≤ l.i-end) × Linked (plan_of l.sheet.bytes.now) l.i l.skeleton.skel l.skeleton.index
 
 abbrev pub decreases-loop-i : goal.decreases-loop-i
 decreases-loop-i l = l.i-end - l.i

@@ -6,4 +6,4 @@ use Rattle.sheet.specs.Table.{transitions_of}
 use Rattle.weights.proofs.any_heavy.Given as goal
 
 abbrev pub invariant-loop-t : goal.invariant-loop-t
-invariant-loop-t l = (l.t ≤ transitions_of l.sheet) × (l.heavy ≡ any l.t (over_weight_in l.sheet))
+invariant-loop-t l = (l.t ≤ transitions_of l.sheet.bytes.now) × (l.heavy ≡ any l.t (over_weight_in l.sheet.bytes.now))
